@@ -122,6 +122,7 @@ python_files() {
 python/rr/__init__.py rr/__init__.py 644
 python/rr/__main__.py rr/__main__.py 644
 python/rr/_library.py rr/_library.py 644
+python/rr/_report.py rr/_report.py 644
 python/rr/_series.py rr/_series.py 644
 python/rr/py.typed rr/py.typed 644
 release/VERSION rr/VERSION 644

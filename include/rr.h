@@ -1,8 +1,9 @@
-/* rr: whether a repeating series survived a trip between calendars, for all years to come.
+/* rr: whether a repeating series, or a whole calendar, survived a trip between calendars, for all years to come.
  *
- * The library has one function, rr_answer. It reads no file, and writes nothing but what `out` and `length` point to. It keeps nothing
- * between calls, so several threads may call it at once. It takes memory by malloc and realloc, and has given all of it back when
- * it returns. Below it stand functions with names, rr_equal, rr_within and rr_disjoint, which are compiled into the caller.
+ * The library has two functions, rr_answer and rr_calendars_answer. They read no file, and write nothing but what `out` and `length` point
+ * to. They keep nothing between calls, so several threads may call them at once. They take memory by malloc and realloc, and have given
+ * all of it back when they return. Below them stand functions with names, rr_equal, rr_within and rr_disjoint, and readers of what the two
+ * answer, rr_read_no, rr_read_moment and rr_read_report_line, which are compiled into the caller.
  *
  * Copyright the rr authors. SPDX-License-Identifier: MIT OR Apache-2.0
  */
@@ -17,12 +18,13 @@
 extern "C" {
 #endif
 
-/* What rr_answer returns: the exit statuses of the program, and RR_TOO_SMALL. It returns no other number; the program's statuses 4 and 5
- * are those of files. */
+/* What both return: the exit statuses of the programs rr and rr-calendars, and RR_TOO_SMALL. They return no other number; the programs' statuses
+ * 4 and 5 are those of files. */
 enum rr_status {
-    RR_YES = 0,       /* the verdict is yes, or a command without a verdict is done */
-    RR_NO = 1,        /* the verdict is no, and `out` names the first counterexample; or nth finds fewer occurrences */
-    RR_REFUSED = 2,   /* an operand is refused: `out` says which one and why */
+    RR_YES = 0,       /* the verdict is yes, or a command without a verdict is done; all events of two calendars are equal */
+    RR_NO = 1,        /* the verdict is no, and `out` names the first counterexample; nth finds fewer occurrences, differences some, and
+                       * between more than it prints; an event differs, or stands in one calendar alone */
+    RR_REFUSED = 2,   /* an operand is refused: `out` says which one and why; an event or a calendar is, and nothing else is wrong */
     RR_USAGE = 3,     /* the words are no command: `out` has the usage line */
     RR_NO_MEMORY = 6, /* out of memory */
     RR_NO_TEXT = 7,   /* the words are no text in UTF-8 */
@@ -46,6 +48,18 @@ enum rr_status {
  */
 uint32_t rr_answer(const uint8_t *words, size_t words_length, const uint8_t *a, size_t a_length, const uint8_t *b, size_t b_length,
                    uint8_t *out, size_t out_length, uint64_t *length);
+
+/* Compares two whole calendars (RFC 5545), as the program rr-calendars does: each event is found again by its UID.
+ *
+ * words, words_length   the words of that program's command line, in the same form: "a\0b\0--differences" has length 17. The first two are for the
+ *                       names of files, and stand for none: they are not empty, do not begin with "--", and are not both "-"
+ * old_text, old_length  the bytes of the first calendar, A; one has at most 67,108,864, and more are refused as TooLong
+ * new_text, new_length  the bytes of the second one, B
+ *
+ * The rest is as of rr_answer. The report has a line for each UID, so it may be long; rr_read_report_line reads one line of it.
+ */
+uint32_t rr_calendars_answer(const uint8_t *words, size_t words_length, const uint8_t *old_text, size_t old_length, const uint8_t *new_text,
+                             size_t new_length, uint8_t *out, size_t out_length, uint64_t *length);
 
 /* A text and its language: "rrule", "vcal", "graph", "list", "canon" or "rscale", with an offset behind it if it has moments in UTC
  * beside local time, as "rrule@+01:00". */
@@ -130,6 +144,99 @@ static inline int rr_read_no(const char *line, size_t length, struct rr_moment *
         return 0;
     *side = length == 4 ? RR_BOTH : length == 1 && *line == 'B' ? RR_B : RR_A;
     return length == 4 ? memcmp(line, "both", 4) == 0 : length == 1 && (*line == 'A' || *line == 'B');
+}
+
+/* What the report on two calendars says of the events of one UID. */
+enum rr_said {
+    RR_SAID_EQUAL,   /* both calendars have the same occurrences of it, for ever */
+    RR_SAID_DIFFERS, /* they do not */
+    RR_SAID_ONLY,    /* one calendar alone has events of it */
+    RR_SAID_REFUSED  /* its events in one calendar can't be compared */
+};
+
+/* A line of that report. Its texts are parts of the line, so no zero byte stands behind them. */
+struct rr_report_line {
+    enum rr_said said;
+    const char *key;         /* the UID as it is printed, or "line 12" for an event without one */
+    size_t key_length;
+    enum rr_side side;       /* unless equal: whose occurrence it is, which calendar has it, or in which it is refused */
+    struct rr_moment moment; /* after RR_SAID_DIFFERS: the first occurrence that only one of them has */
+    const char *refusal;     /* after RR_SAID_REFUSED: why, as "UtcMoment 124" */
+    size_t refusal_length;
+    int has_other_zone;      /* the zones have other names: local times are compared, and names of zones are not */
+};
+
+/* Reads this text, and says whether it is there. */
+static inline int rr_read_text(const char **text, size_t *left, const char *wanted)
+{
+    size_t count = strlen(wanted);
+    if (*left < count || memcmp(*text, wanted, count) != 0)
+        return 0;
+    *text += count;
+    *left -= count;
+    return 1;
+}
+
+/* Reads a key: the bytes before the next blank, and behind the word "line" a blank and digits too, if they are there. */
+static inline void rr_read_key(const char **text, size_t *left, struct rr_report_line *line)
+{
+    line->key = *text;
+    while (*left > 0 && **text != ' ')
+        ++*text, --*left;
+    if (*text - line->key == 4 && memcmp(line->key, "line", 4) == 0 && *left > 1 && (*text)[1] >= '0' && (*text)[1] <= '9')
+        do
+            ++*text, --*left;
+        while (*left > 0 && **text != ' ');
+    line->key_length = (size_t)(*text - line->key);
+}
+
+/* Reads A or B. */
+static inline int rr_read_side(const char **text, size_t *left, enum rr_side *side)
+{
+    *side = *left > 0 && **text == 'B' ? RR_B : RR_A;
+    return rr_read_byte(text, left, *side == RR_B ? 'B' : 'A');
+}
+
+/* Reads what stands in a line behind its first word. */
+static inline int rr_read_said(const char **text, size_t *left, struct rr_report_line *line)
+{
+    if (line->said == RR_SAID_ONLY && !(rr_read_side(text, left, &line->side) && rr_read_byte(text, left, ' ')))
+        return 0;
+    rr_read_key(text, left, line);
+    if (line->said == RR_SAID_REFUSED) {
+        if (!rr_read_byte(text, left, ' ') || !rr_read_side(text, left, &line->side) || !rr_read_byte(text, left, ' '))
+            return 0;
+        line->refusal = *text, line->refusal_length = *left;
+        *text += *left, *left = 0;
+        return 1;
+    }
+    if (line->said == RR_SAID_DIFFERS && !(rr_read_text(text, left, " no ") && rr_read_moment(text, left, &line->moment) &&
+                                           rr_read_byte(text, left, ' ') && rr_read_side(text, left, &line->side)))
+        return 0;
+    line->has_other_zone = line->said != RR_SAID_ONLY && rr_read_text(text, left, " zone");
+    return 1;
+}
+
+/* Reads a line of the report at the front of *text. It returns whether one is there that is of a UID, and then leaves in *text and *left what follows
+ * it; otherwise it leaves both as they are: at the last line, which counts, at the refusal of a whole calendar, and at the end. */
+static inline int rr_read_report_line(const char **text, size_t *left, struct rr_report_line *line)
+{
+    static const char *const words[] = { "equal ", "differs ", "only ", "refused " };
+    const char *at = *text, *end = *left ? (const char *)memchr(*text, '\n', *left) : NULL;
+    size_t count = end ? (size_t)(end - *text) : *left, whole = end ? count + 1 : count;
+    int word = 0;
+
+    memset(line, 0, sizeof *line);
+    while (word < 4 && !rr_read_text(&at, &count, words[word]))
+        word++;
+    if (word == 4)
+        return 0;
+    line->said = (enum rr_said)word;
+    if (!rr_read_said(&at, &count, line) || count > 0 || line->key_length == 0)
+        return 0;
+    *text += whole;
+    *left -= whole;
+    return 1;
 }
 
 /* Puts the word of an operand behind the first *length bytes of words, after a zero byte, unless the language is longer than 15 bytes. */

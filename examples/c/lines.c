@@ -1,4 +1,5 @@
-/* Tries what reads the line of a no in rr.h, also of lines that are none. It prints each that fails, and ends with their number. */
+/* Tries what reads the line of a no in rr.h, and what reads a line of the report on two calendars, also of lines that are none. It prints each
+ * that fails, and ends with their number. */
 #include <rr.h>
 #include <stdio.h>
 
@@ -26,15 +27,70 @@ static const struct row rows[] = {
     { "refused A NoStart\n", 0, { 0, 0, 0, 0, 0, 0, 0 }, RR_A },
 };
 
+struct report_row {
+    const char *text;
+    int is_line;
+    enum rr_said said;
+    const char *key;
+    enum rr_side side;
+    struct rr_moment moment;
+    const char *refusal;
+    int has_other_zone;
+};
+
+static const struct report_row report_rows[] = {
+    { "equal a@b\n", 1, RR_SAID_EQUAL, "a@b", RR_A, { 0, 0, 0, 0, 0, 0, 0 }, "", 0 },
+    { "equal zone zone\n", 1, RR_SAID_EQUAL, "zone", RR_A, { 0, 0, 0, 0, 0, 0, 0 }, "", 1 },
+    { "equal line 12 zone", 1, RR_SAID_EQUAL, "line 12", RR_A, { 0, 0, 0, 0, 0, 0, 0 }, "", 1 },
+    { "equal line zone\n", 1, RR_SAID_EQUAL, "line", RR_A, { 0, 0, 0, 0, 0, 0, 0 }, "", 1 },
+    { "differs u no 2024-06-28 A\nequal v\n", 1, RR_SAID_DIFFERS, "u", RR_A, { 2024, 6, 28, 1, 0, 0, 0 }, "", 0 },
+    { "differs no no 2024-06-28T09:30:00 B zone\n", 1, RR_SAID_DIFFERS, "no", RR_B, { 2024, 6, 28, 0, 9, 30, 0 }, "", 1 },
+    { "only A line 3\n", 1, RR_SAID_ONLY, "line 3", RR_A, { 0, 0, 0, 0, 0, 0, 0 }, "", 0 },
+    { "only B B\n", 1, RR_SAID_ONLY, "B", RR_B, { 0, 0, 0, 0, 0, 0, 0 }, "", 0 },
+    { "refused A B UtcMoment 124\n", 1, RR_SAID_REFUSED, "A", RR_B, { 0, 0, 0, 0, 0, 0, 0 }, "UtcMoment 124", 0 },
+    { "refused line 7 A NoStart 7\n", 1, RR_SAID_REFUSED, "line 7", RR_A, { 0, 0, 0, 0, 0, 0, 0 }, "NoStart 7", 0 },
+    { "refused B BadLine 3\n", 0, RR_SAID_EQUAL, "", RR_A, { 0, 0, 0, 0, 0, 0, 0 }, "", 0 },
+    { "refused A NoEvents\n", 0, RR_SAID_EQUAL, "", RR_A, { 0, 0, 0, 0, 0, 0, 0 }, "", 0 },
+    { "events 0 equal 0 differs 0 only-A 0 only-B 0 refused 0\n", 0, RR_SAID_EQUAL, "", RR_A, { 0, 0, 0, 0, 0, 0, 0 }, "", 0 },
+    { "equal \n", 0, RR_SAID_EQUAL, "", RR_A, { 0, 0, 0, 0, 0, 0, 0 }, "", 0 },
+    { "equal a b\n", 0, RR_SAID_EQUAL, "", RR_A, { 0, 0, 0, 0, 0, 0, 0 }, "", 0 },
+    { "only C a\n", 0, RR_SAID_EQUAL, "", RR_A, { 0, 0, 0, 0, 0, 0, 0 }, "", 0 },
+    { "differs u no 2024-06-28 both\n", 0, RR_SAID_EQUAL, "", RR_A, { 0, 0, 0, 0, 0, 0, 0 }, "", 0 },
+    { "", 0, RR_SAID_EQUAL, "", RR_A, { 0, 0, 0, 0, 0, 0, 0 }, "", 0 },
+};
+
 static int is_same(const struct rr_moment *a, const struct rr_moment *b)
 {
     return a->year == b->year && a->month == b->month && a->day == b->day && a->is_date == b->is_date && a->hour == b->hour &&
            a->minute == b->minute && a->second == b->second;
 }
 
+static int is_text(const char *bytes, size_t length, const char *text)
+{
+    return length == strlen(text) && (length == 0 || memcmp(bytes, text, length) == 0);
+}
+
+/* Whether a line is read as its row says, and what follows it is left. */
+static int is_read(const struct report_row *row)
+{
+    const char *text = row->text, *next = strchr(row->text, '\n');
+    size_t left = strlen(text), length = next ? (size_t)(next + 1 - text) : left;
+    struct rr_report_line line;
+    if (rr_read_report_line(&text, &left, &line) != row->is_line || text != row->text + (row->is_line ? length : 0) || left != strlen(text))
+        return 0;
+    return !row->is_line || (line.said == row->said && is_text(line.key, line.key_length, row->key) && line.side == row->side &&
+                             is_same(&line.moment, &row->moment) && is_text(line.refusal, line.refusal_length, row->refusal) &&
+                             line.has_other_zone == row->has_other_zone);
+}
+
 int main(void)
 {
     int failed = 0;
+    for (size_t i = 0; i < sizeof report_rows / sizeof *report_rows; i++)
+        if (!is_read(&report_rows[i])) {
+            printf("report line %d: %s\n", (int)i, report_rows[i].text);
+            failed++;
+        }
     for (size_t i = 0; i < sizeof rows / sizeof *rows; i++) {
         const struct row *row = &rows[i];
         struct rr_moment moment;

@@ -21,6 +21,13 @@ datetime.datetime(2024, 12, 31, 9, 0)
 >>> rr.within(rr.occurrences(phone, 3), phone)
 True
 
+Two whole calendars are compared event by event, by their UIDs:
+
+>>> daily = "BEGIN:VEVENT\\nUID:stand-up\\nDTSTART:20240101T090000\\nRRULE:FREQ=DAILY\\nEND:VEVENT\\n"
+>>> said = rr.calendars(daily, daily.replace("FREQ", "COUNT=10;FREQ"))
+>>> said.counts.differs, said.lines[0].moment
+(1, datetime.datetime(2024, 1, 11, 9, 0))
+
 What can't be read, or is beyond the limits, is refused by an exception that says why:
 
 >>> rr.check("DTSTART;VALUE=DATE:20240101\\nRRULE:FREQ=NEVER\\n")
@@ -38,15 +45,17 @@ from __future__ import annotations
 import ctypes
 import datetime
 from dataclasses import dataclass
-from typing import Literal
+from typing import Callable, Iterator, Literal, overload
 
-from ._library import NO, NO_MEMORY, REFUSED, TOO_SMALL, USAGE, rr_answer, version
-from ._series import AnySeries, Language, Moment, Operand, Series, Text, is_aware, moment_of, operand, text_of
+from ._library import NO, NO_MEMORY, REFUSED, TOO_SMALL, USAGE, rr_answer, rr_calendars_answer, version
+from ._report import Calendar, Counts, Key, Report, ReportLine, Shown, calendar_of, name_of, report_of, shown_of
+from ._series import AnySeries, Language, Moment, Operand, Series, Text, is_aware, moment_of, offset_text, operand, text_of
 
 __all__ = [
-    "AnySeries", "Clash", "Differs", "Language", "Moment", "OutOfMemory", "Refused", "Series", "Text", "__version__",
-    "answer", "canon", "canon1", "check", "clear", "common", "disjoint", "equal", "infer", "minus", "nth", "occurrences", "rank",
-    "translate", "union", "within",
+    "AnySeries", "Calendar", "Clash", "Counts", "Differs", "Key", "Language", "Moment", "OutOfMemory", "Refused", "Report", "ReportLine", "Series",
+    "Shown", "Text", "__version__",
+    "answer", "calendars", "canon", "canon1", "check", "clear", "common", "differences", "disjoint", "equal", "infer", "minus", "nth", "occurrences", "rank",
+    "translate", "union", "upcoming", "window", "within",
 ]
 
 __version__ = version()
@@ -108,12 +117,17 @@ def answer(words: list[str], a: bytes = b"", b: bytes = b"", room: int = _ROOM) 
     >>> answer(["check", "rrule:a"], b"DTSTART;VALUE=DATE:20240101\\nRRULE:FREQ=WEEKLY\\n")
     (0, b'cycle 7\\n')
     """
+    return _answer_by(rr_answer, words, a, b, room)
+
+
+def _answer_by(function: Callable[..., int], words: list[str], a: bytes, b: bytes, room: int) -> tuple[int, bytes]:
+    """What a function of the library answers."""
     if any("\0" in word for word in words):
         raise ValueError("a word has no zero byte")
     said, length = "\0".join(words).encode("utf-8", "surrogateescape"), ctypes.c_uint64()
     while True:
         out = ctypes.create_string_buffer(max(room, 1))
-        status = rr_answer(said, len(said), a, len(a), b, len(b), out, room, ctypes.byref(length))
+        status = function(said, len(said), a, len(a), b, len(b), out, room, ctypes.byref(length))
         if status == NO_MEMORY:
             raise OutOfMemory
         if status != TOO_SMALL:
@@ -141,12 +155,17 @@ def _place(place: str | None = None) -> int | str | None:
     return int(place) if place and place.isdecimal() else place
 
 
+def _refused(line: str) -> Refused:
+    """The refusal of a whole operand, by the line that says it."""
+    _, side, name, *place = line.split()
+    return Refused(side, name, _place(*place))
+
+
 def _ask(words: list[str], a: Operand, b: Operand | None = None, room: int = _ROOM) -> tuple[int, str]:
     """The status and the answer, where it is no refusal. The words end with those of the operands."""
     status, out = answer(words, a.data, b"" if b is None else b.data, room)
     if status == REFUSED:
-        _, side, name, *place = out.decode().split()
-        raise Refused(side, name, _place(*place))
+        raise _refused(out.decode())
     if status >= USAGE:
         raise ValueError(f"not within what rr takes: {' '.join(words)}")
     return status, out.decode()
@@ -166,6 +185,12 @@ def _text_of_one(command: list[str], series: AnySeries) -> str:
 
 def _text_of_two(command: str, a: AnySeries, b: AnySeries) -> str:
     return _of_two(command, operand(a), operand(b), _TEXT_ROOM)[1]
+
+
+def _moments(series: Operand, lines: list[str]) -> list[Moment]:
+    """Printed moments of a series."""
+    zone = series.zone() if lines and "T" in lines[0] else None
+    return [moment_of(line, zone) for line in lines]
 
 
 def _shared(text: str, a: Operand, b: Operand) -> Moment:
@@ -212,6 +237,18 @@ def disjoint(a: AnySeries, b: AnySeries) -> Literal[True] | Differs:
     Differs(moment=datetime.date(2024, 1, 1), side='both')
     """
     return _verdict("disjoint", a, b)
+
+
+def differences(a: AnySeries, b: AnySeries, n: int) -> list[Differs]:
+    """The first n occurrences that exactly one of a and b has, each with its side, or all if there are fewer; n is 1 to 10,000.
+
+    >>> differences("DTSTART;VALUE=DATE:20240101\\nRRULE:FREQ=DAILY;INTERVAL=2\\n", "DTSTART;VALUE=DATE:20240101\\nRRULE:FREQ=DAILY;INTERVAL=3\\n", 2)
+    [Differs(moment=datetime.date(2024, 1, 3), side='A'), Differs(moment=datetime.date(2024, 1, 4), side='B')]
+    """
+    one, other = operand(a), operand(b)
+    _, out = _ask(["differences", _count(n, 10_000), one.word("a"), other.word("b")], one, other, max(_ROOM, (_LINE + 2) * n))
+    zones = {"A": one.zone(), "B": other.zone()}
+    return [Differs(moment_of(text, zones[side] if "T" in text else None), side) for text, side in map(str.split, out.splitlines())]
 
 
 def clear(a: AnySeries, a_lasts: datetime.timedelta | int, b: AnySeries, b_lasts: datetime.timedelta | int) -> Literal[True] | Clash:
@@ -301,9 +338,7 @@ def occurrences(series: AnySeries, n: int) -> list[Moment]:
     [datetime.date(9999, 12, 31), '10000-01-01']
     """
     it = operand(series)
-    lines = _of_one(["list", _count(n, 100_000)], it, max(_ROOM, _LINE * n))[1].splitlines()
-    zone = it.zone() if lines and "T" in lines[0] else None
-    return [moment_of(line, zone) for line in lines]
+    return _moments(it, _of_one(["list", _count(n, 100_000)], it, max(_ROOM, _LINE * n))[1].splitlines())
 
 
 def nth(series: AnySeries, n: int) -> Moment | None:
@@ -329,6 +364,35 @@ def rank(series: AnySeries, moment: Moment) -> int:
     return int(_of_one(["rank", text_of(moment, zone)], it)[1])
 
 
+def upcoming(series: AnySeries, moment: Moment, n: int) -> list[Moment]:
+    """The first n occurrences that do not come before a date or a moment of the years 1 to 9999, or all if there are fewer; n is 1 to
+    100,000. A date comes before the moments of its day.
+
+    >>> upcoming("DTSTART;VALUE=DATE:20240101\\nRRULE:FREQ=WEEKLY\\n", datetime.date(2424, 1, 2), 2)
+    [datetime.date(2424, 1, 8), datetime.date(2424, 1, 15)]
+    """
+    it = operand(series)
+    first = text_of(moment, it.zone() if is_aware(moment) else None)
+    return _moments(it, _of_one(["from", first, _count(n, 100_000)], it, max(_ROOM, _LINE * n))[1].splitlines())
+
+
+def window(series: AnySeries, start: Moment, end: Moment) -> Iterator[Moment]:
+    """The occurrences that do not come before one date or moment of the years 1 to 9999 and come before another, in order, however many
+    there are.
+
+    >>> list(window("DTSTART;VALUE=DATE:20240101\\nRRULE:FREQ=WEEKLY\\n", datetime.date(2024, 12, 20), datetime.date(2025, 1, 6)))
+    [datetime.date(2024, 12, 23), datetime.date(2024, 12, 30)]
+    """
+    it = operand(series)
+    first, last = (text_of(moment, it.zone() if is_aware(moment) else None) for moment in (start, end))
+    status, printed = NO, None
+    while status == NO:  # there are more than the program prints at once, and the last one is asked for again
+        status, out = _of_one(["between", printed or first, last], it, _TEXT_ROOM)
+        lines = out.splitlines()
+        yield from _moments(it, [line for line in lines if line != printed])
+        printed = lines[-1] if lines else None
+
+
 def translate(series: AnySeries, language: Literal["rrule", "vcal", "graph"]) -> str:
     """A text in another language that has exactly the occurrences; refused as NotSayable where none of those looked for has them.
 
@@ -345,3 +409,48 @@ def infer(series: AnySeries) -> str:
     'DTSTART;VALUE=DATE:20240131\\r\\nRRULE:FREQ=MONTHLY;COUNT=3;BYMONTHDAY=31\\r\\n'
     """
     return _text_of_one(["infer"], series)
+
+
+@overload
+def calendars(old: Calendar, new: Calendar, offset: datetime.timedelta | None = None, show: None = None, differences: bool = False) -> Report: ...
+@overload
+def calendars(old: Calendar, new: Calendar, offset: datetime.timedelta | None = None, *, show: Key, differences: bool = False) -> Shown: ...
+def calendars(
+    old: Calendar, new: Calendar, offset: datetime.timedelta | None = None, show: Key | None = None, differences: bool = False
+) -> Report | Shown:
+    """What is said of two calendars, as docs/CALENDARS.md has it: each event is found again by its UID. Moments in UTC beside a local start
+    are read by the zones of the calendar, and those that no zone turns by the offset, which says how far local time is ahead of UTC. With
+    differences the lines of equal events in the same zones are left out. With show only the events of that UID are asked for, and the months
+    from their first difference on are painted. A calendar that can't be read as a whole is Refused, and a UID that neither has is a KeyError.
+
+    >>> board = "BEGIN:VEVENT\\nUID:board\\nDTSTART;VALUE=DATE:20240105\\nRRULE:FREQ=MONTHLY\\nEND:VEVENT\\n"
+    >>> lunch = "BEGIN:VEVENT\\nUID:lunch\\nDTSTART:20240105T123000\\nEND:VEVENT\\n"
+    >>> said = calendars(board + lunch, board.replace("MONTHLY", "MONTHLY;INTERVAL=2"))
+    >>> for line in said.lines:
+    ...     line.key, line.said, line.side, line.moment
+    ('board', 'differs', 'A', datetime.date(2024, 2, 5))
+    ('lunch', 'only', 'A', None)
+    >>> said.counts
+    Counts(events=2, equal=0, differs=1, only_a=1, only_b=0, refused=0, other_zone=0)
+    >>> bool(said), bool(calendars(board + lunch, lunch + board))
+    (False, True)
+    >>> calendars(board, lunch, show="lunch").line.side
+    'B'
+    """
+    if rr_calendars_answer is None:
+        raise NotImplementedError("the shared library is of an older release, and compares no calendars")
+    a, b = calendar_of(old), calendar_of(new)
+    words = ["a", "b"]
+    words += [] if offset is None else ["--offset", offset_text(offset)]
+    words += [] if show is None else ["--show", name_of(show)]
+    words += ["--differences"] if differences else []
+    status, out = _answer_by(rr_calendars_answer, words, a, b, _ROOM + len(a) + len(b))
+    if status >= USAGE:
+        raise ValueError(f"not within what rr takes: {' '.join(words)}")
+    text = out.decode()
+    if show is not None and text.startswith("unknown "):
+        raise KeyError(show)
+    said = report_of(text) if show is None else shown_of(text)
+    if said is None:
+        raise _refused(text)
+    return said

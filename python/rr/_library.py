@@ -1,4 +1,4 @@
-"""Where the shared library is, and its function."""
+"""Where the shared library is, and its functions."""
 from __future__ import annotations
 
 import ctypes
@@ -6,6 +6,7 @@ import os
 import platform
 import sys
 from pathlib import Path
+from typing import Any
 
 _HERE = Path(__file__).resolve().parent
 _RELEASE = _HERE.parent.parent / "release"
@@ -39,6 +40,16 @@ def version() -> str:
 NO, REFUSED, USAGE, NO_MEMORY, NO_TEXT, TOO_SMALL = 1, 2, 3, 6, 7, 8
 
 _library = _load()
-rr_answer = _library.rr_answer
-rr_answer.restype = ctypes.c_uint32
-rr_answer.argtypes = [ctypes.c_char_p, ctypes.c_size_t] * 3 + [ctypes.c_void_p, ctypes.c_size_t, ctypes.POINTER(ctypes.c_uint64)]
+
+
+def _function(name: str) -> Any:
+    """A function of the library; all have the form that include/rr.h says."""
+    function = getattr(_library, name)
+    function.restype = ctypes.c_uint32
+    function.argtypes = [ctypes.c_char_p, ctypes.c_size_t] * 3 + [ctypes.c_void_p, ctypes.c_size_t, ctypes.POINTER(ctypes.c_uint64)]
+    return function
+
+
+rr_answer = _function("rr_answer")
+# (a library of an older release compares no calendars)
+rr_calendars_answer = _function("rr_calendars_answer") if hasattr(_library, "rr_calendars_answer") else None

@@ -31,8 +31,9 @@ class Series:
 
     A moment comes back aware, with a tzinfo, if its series is in UTC or has a zone or an offset, and naive otherwise. A series is in UTC
     if its start is, unless an offset turns it, as that of a Graph event; or if it is a list of aware moments. Its zone is the one given
-    here, or its offset if none is given. An offset is taken to hold all year: for a place with summer time give the zone too. An aware moment that
-    is asked about is turned to the zone of the series first. No verdict depends on a zone: the readings of two clocks are compared.
+    here, or its offset if none is given. An offset is taken to hold all year: for a place with summer time give the zone too. With the word
+    "zone" for an offset the moments in UTC of an rrule or rscale text are read by the zones that it defines. An aware moment that is asked
+    about is turned to the zone of the series first. No verdict depends on a zone: the readings of two clocks are compared.
 
     >>> utc = "DTSTART:20240101T090000Z\\nRRULE:FREQ=DAILY\\n"
     >>> second = rr.nth(utc, 2)
@@ -44,11 +45,16 @@ class Series:
 
     text: Text
     language: Language = "rrule"
-    offset: datetime.timedelta | None = None
+    offset: datetime.timedelta | Literal["zone"] | None = None
     zone: datetime.tzinfo | None = None
 
 
 AnySeries = Union[Series, Text]
+
+
+def _zone_of(offset: datetime.timedelta | Literal["zone"] | None) -> datetime.timezone | None:
+    """The zone of a stated offset; that of the word `zone` is not known here."""
+    return None if offset is None or offset == "zone" else datetime.timezone(offset)
 
 
 def is_aware(moment: object) -> bool:
@@ -87,10 +93,22 @@ def text_of(moment: object, zone: datetime.tzinfo | None) -> str:
     return moment.astimezone(zone).replace(tzinfo=None).isoformat()
 
 
-def read_file(file: str | int | os.PathLike[str]) -> bytes:
+def read_file(file: str | int | os.PathLike[str], most: int = _MOST) -> bytes:
     """What is read of a file: if it has more than a text may have, one byte more, so that it is refused."""
     with open(file, "rb") as opened:
-        return opened.read(_MOST)
+        return opened.read(most)
+
+
+def offset_text(offset: datetime.timedelta) -> str:
+    """An offset from UTC as it is written in a word.
+
+    >>> offset_text(datetime.timedelta(hours=-3, minutes=-30))
+    '-03:30'
+    """
+    minutes = offset // datetime.timedelta(minutes=1)
+    if datetime.timedelta(minutes=minutes) != offset:
+        raise ValueError("an offset has whole minutes")
+    return f"{'-' if minutes < 0 else '+'}{abs(minutes) // 60:02}:{abs(minutes) % 60:02}"
 
 
 @dataclass(frozen=True)
@@ -99,17 +117,16 @@ class Operand:
 
     data: bytes
     language: Language
-    offset: datetime.timedelta | None
+    offset: datetime.timedelta | Literal["zone"] | None
     given: datetime.tzinfo | None
 
     def word(self, name: str) -> str:
         """The word for the series, under a name."""
         if self.offset is None:
             return f"{self.language}:{name}"
-        minutes = self.offset // datetime.timedelta(minutes=1)
-        if datetime.timedelta(minutes=minutes) != self.offset:
-            raise ValueError("an offset has whole minutes")
-        return f"{self.language}@{'-' if minutes < 0 else '+'}{abs(minutes) // 60:02}:{abs(minutes) % 60:02}:{name}"
+        if self.offset == "zone":
+            return f"{self.language}@zone:{name}"
+        return f"{self.language}@{offset_text(self.offset)}:{name}"
 
     def zone(self) -> datetime.tzinfo | None:
         """The zone of its moments, if they have one."""
@@ -117,8 +134,9 @@ class Operand:
             return datetime.timezone.utc
         if self.given is not None:
             return self.given
-        if self.offset is not None:
-            return datetime.timezone(self.offset)
+        stated = _zone_of(self.offset)
+        if stated is not None:
+            return stated
         return datetime.timezone.utc if self.language == "graph" and _graph_starts_in_utc(self.data) else None
 
     def moment(self, text: str) -> Moment:
@@ -132,7 +150,7 @@ def operand(series: AnySeries) -> Operand:
     text = it.text
     if isinstance(text, (str, bytes, bytearray, memoryview)):
         data = text.encode() if isinstance(text, str) else bytes(text)
-        if _is_file_name(data, it.language):
+        if is_file_name(data, it.language):
             raise ValueError(f"{text!r} is no calendar text but probably the name of a file, which is given as a pathlib.Path")
         return Operand(data, it.language, it.offset, it.zone)
     if isinstance(text, os.PathLike):
@@ -155,15 +173,15 @@ def _list(moments: Collection[object], series: Series) -> Operand:
         raise ValueError("of the moments of a series all are aware or none is")
     zone = series.zone
     if zone is None and True in aware:
-        zone = datetime.timezone.utc if series.offset is None else datetime.timezone(series.offset)
+        zone = _zone_of(series.offset) or datetime.timezone.utc
     lines = sorted({f"{text_of(moment, zone)}\n" for moment in moments}, key=lambda line: (line.find("-"), line))
     return Operand("".join(lines).encode(), "list", series.offset, zone)
 
 
-def _is_file_name(text: bytes, language: Language) -> bool:
+def is_file_name(text: bytes, language: Language = "rrule") -> bool:
     """Whether a text is probably the name of a file: it has no line end, and no colon but that of a drive. A list may be one date.
 
-    >>> _is_file_name(b"team.ics", "rrule"), _is_file_name(b"C:/team.ics", "rrule"), _is_file_name(b"2024-01-01", "list")
+    >>> is_file_name(b"team.ics"), is_file_name(b"C:/team.ics"), is_file_name(b"2024-01-01", "list")
     (True, True, False)
     """
     if not text or b"\n" in text or b"\r" in text:

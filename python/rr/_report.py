@@ -1,0 +1,170 @@
+"""What is said of two whole calendars, in types."""
+from __future__ import annotations
+
+import os
+import re
+from dataclasses import dataclass
+from typing import Literal, Union
+
+from ._series import Moment, is_file_name, moment_of, read_file
+
+# The most bytes of a calendar, and one.
+_MOST = 67_108_865
+
+Calendar = Union[str, bytes, bytearray, memoryview, "os.PathLike[str]"]
+"""The text or the bytes of a calendar, or the path of its file, which is read at each call."""
+Key = Union[str, int]
+"""The UID of events; of an event without one the number of the line that begins it."""
+Said = Literal["equal", "differs", "only", "refused"]
+
+
+@dataclass(frozen=True)
+class ReportLine:
+    """What is said of the events of one UID.
+
+    key         the UID as the file has it, or the line of an event without one
+    said        'equal': both have the same occurrences; 'differs': they do not; 'only': one calendar alone has events of it; 'refused': they can't
+                be compared
+    side        unless equal: 'A' is the old calendar, 'B' the new one. Whose occurrence it is, which has the events, or in which they are refused
+    moment      if they differ: the first occurrence that only one of them has, as a date or a moment of the local clock
+    refusal     if they are refused: the name. docs/REFUSALS.md and docs/CALENDARS.md say of each name what to do
+    place       if they are refused: the number of the line, or of the rule if they are NotSynchronised
+    other_zone  the zones differ, by their names or as UTC beside local time: local times are compared, and zones are not
+    """
+
+    key: Key
+    said: Said
+    side: Literal["A", "B"] | None = None
+    moment: Moment | None = None
+    refusal: str | None = None
+    place: int | None = None
+    other_zone: bool = False
+
+
+@dataclass(frozen=True)
+class Counts:
+    """How many UIDs there are, and of how many each is said; other_zone counts those of equal and differs whose zones differ, by their names or
+    as UTC beside local time."""
+
+    events: int
+    equal: int
+    differs: int
+    only_a: int
+    only_b: int
+    refused: int
+    other_zone: int
+
+
+@dataclass(frozen=True)
+class Report:
+    """What is said of two calendars: a line for each UID, in the order of their bytes, and the counts. It is true in a condition if all are equal."""
+
+    lines: tuple[ReportLine, ...]
+    counts: Counts
+
+    def __bool__(self) -> bool:
+        return self.counts.equal == self.counts.events
+
+
+@dataclass(frozen=True)
+class Shown:
+    """What is said of the events of one UID, and, if they differ, the months from the first difference on, as the program paints them; otherwise
+    the picture is empty. It is true in a condition if they are equal."""
+
+    line: ReportLine
+    picture: str
+
+    def __bool__(self) -> bool:
+        return self.line.said == "equal"
+
+
+def calendar_of(calendar: Calendar) -> bytes:
+    """The bytes of a calendar; a file is read here."""
+    if isinstance(calendar, (str, bytes, bytearray, memoryview)):
+        data = calendar.encode() if isinstance(calendar, str) else bytes(calendar)
+        if is_file_name(data):
+            raise ValueError(f"{calendar!r} is no calendar text but probably the name of a file, which is given as a pathlib.Path")
+        return data
+    if isinstance(calendar, os.PathLike):
+        return read_file(calendar, _MOST)
+    raise TypeError(f"a calendar is a text, bytes or a Path, and not {calendar!r}")
+
+
+def name_of(key: Key) -> str:
+    r"""A key as it is printed and asked for: of a UID each byte but the visible ones of ASCII, and the backslash, is escaped.
+
+    >>> print(name_of(12), name_of("a@b"), name_of("caf\u00e9 \\"))
+    line 12 a@b caf\xc3\xa9\x20\x5c
+    """
+    if isinstance(key, int):
+        return f"line {key}"
+    return "".join(chr(byte) if 0x20 < byte < 0x7F and byte != 0x5C else f"\\x{byte:02x}" for byte in key.encode("utf-8", "surrogateescape"))
+
+
+def _uid_of(printed: str) -> str:
+    r"""A UID by how it is printed. Bytes that are no text stand in it as the interpreter has them in names of files.
+
+    >>> _uid_of(r"caf\xc3\xa9\x20\x5c") == "caf\u00e9 \\"
+    True
+    """
+    return re.sub(rb"\\x([0-9a-f]{2})", lambda it: bytes([int(it.group(1), 16)]), printed.encode()).decode("utf-8", "surrogateescape")
+
+
+_KEY = r"(?:line (?P<line>[0-9]+)|(?P<uid>\S+))"
+_FORMS: list[tuple[Said, str]] = [
+    ("equal", f"equal {_KEY}(?P<zone> zone)?"),
+    ("differs", f"differs {_KEY} no (?P<moment>\\S+) (?P<side>[AB])(?P<zone> zone)?"),
+    ("only", f"only (?P<side>[AB]) {_KEY}"),
+    ("refused", f"refused {_KEY} (?P<side>[AB]) (?P<refusal>[A-Za-z]+) (?P<place>[0-9]+)"),
+]
+
+
+def line_of(text: str) -> ReportLine | None:
+    """A line of a report, or None if it is none of a UID.
+
+    >>> line_of("differs oncall@team.example no 2024-06-28 A zone")
+    ReportLine(key='oncall@team.example', said='differs', side='A', moment=datetime.date(2024, 6, 28), refusal=None, place=None, other_zone=True)
+    >>> line_of("only B line 12").key
+    12
+    >>> line_of("refused A BadLine 3")
+    """
+    for said, form in _FORMS:
+        it = re.fullmatch(form, text)
+        if it is not None:
+            return _line(said, it.groupdict())
+    return None
+
+
+def _line(said: Said, it: dict[str, str | None]) -> ReportLine:
+    line, uid, side, moment, place = (it.get(name) for name in ("line", "uid", "side", "moment", "place"))
+    return ReportLine(
+        _uid_of(uid) if uid is not None else int(line or 0),
+        said,
+        None if side is None else "A" if side == "A" else "B",
+        None if moment is None else moment_of(moment),
+        it.get("refusal"),
+        None if place is None else int(place),
+        it.get("zone") is not None,
+    )
+
+
+def report_of(text: str) -> Report | None:
+    """A report by what is printed, or None if it is none, but the refusal of a calendar.
+
+    >>> report_of("only A u\\nevents 1 equal 0 differs 0 only-A 1 only-B 0 refused 0\\n").counts
+    Counts(events=1, equal=0, differs=0, only_a=1, only_b=0, refused=0, other_zone=0)
+    """
+    *lines, last = text.splitlines()
+    if not last.startswith("events "):
+        return None
+    words = last.split()
+    number = {name: int(count) for name, count in zip(words[::2], words[1::2])}
+    counts = Counts(*(number.get(name, 0) for name in ("events", "equal", "differs", "only-A", "only-B", "refused", "zone")))
+    return Report(tuple(it for it in map(line_of, lines) if it is not None), counts)
+
+
+def shown_of(text: str) -> Shown | None:
+    """What is shown of one UID by what is printed, or None if that is the refusal of a calendar."""
+    first, _, rest = text.partition("\n")
+    line = line_of(first)
+    return None if line is None else Shown(line, rest.lstrip("\n"))
