@@ -1,6 +1,7 @@
 #!/bin/sh
-# What two calendars of 10,000 everyday events cost: seconds and the most memory, of a comparison of equal files and of one in
-# which every tenth event differs. Usage: bench/calendars.sh [PROGRAM [EVENTS]], after the program was built; it stands on GNU time.
+# What two calendars of 10,000 everyday events cost: seconds and the most memory, of a comparison of equal files, of one in which every
+# tenth event differs, and of two files of 10,000 weekly events that end in local time and in UTC, read by the zone of the file: the second
+# may take at most 1.3 times what the first takes. Usage: bench/calendars.sh [PROGRAM [EVENTS]], after the program was built; it stands on GNU time.
 set -eu
 program=${1:-$(dirname -- "$0")/../crates/rr_calendars/out/rr_calendars}
 events=${2:-10000}
@@ -48,4 +49,35 @@ for other in old new; do
     status=0
     /usr/bin/time -f '%e s (%U of the processor), %M KB' -o "$scratch/time" "$program" "$scratch/old.ics" "$scratch/$other.ics" --differences >"$scratch/said" || status=$?
     printf '%s: status %s, %s, %s\n' "$other" "$status" "$(tail -n 1 "$scratch/time")" "$(tail -n 1 "$scratch/said")"
+done
+
+# ending UNTIL: weekly events of Berlin with the VTIMEZONE of it, each of which ends so.
+ending() {
+    awk -v n="$events" -v until="$1" 'BEGIN {
+        ORS = "\r\n"
+        print "BEGIN:VCALENDAR"
+        print "VERSION:2.0"
+        print "PRODID:-//Bench//Calendars//EN"
+        print "BEGIN:VTIMEZONE"
+        print "TZID:Europe/Berlin"
+        print "BEGIN:DAYLIGHT\r\nDTSTART:19810329T020000\r\nRRULE:FREQ=YEARLY;BYMONTH=3;BYDAY=-1SU\r\nTZOFFSETFROM:+0100\r\nTZOFFSETTO:+0200\r\nEND:DAYLIGHT"
+        print "BEGIN:STANDARD\r\nDTSTART:19961027T030000\r\nRRULE:FREQ=YEARLY;BYMONTH=10;BYDAY=-1SU\r\nTZOFFSETFROM:+0200\r\nTZOFFSETTO:+0100\r\nEND:STANDARD"
+        print "END:VTIMEZONE"
+        for (i = 0; i < n; i++) {
+            print "BEGIN:VEVENT"
+            print "UID:" sprintf("%06d-event@bench.example", (i * 7919) % 1000000)
+            print "DTSTART;TZID=Europe/Berlin:20240108T090000"
+            print "RRULE:FREQ=WEEKLY;UNTIL=" until
+            print "END:VEVENT"
+        }
+        print "END:VCALENDAR"
+    }'
+}
+
+ending 20250630T090000 >"$scratch/local.ics"
+ending 20250630T070000Z >"$scratch/utc.ics"
+for ends in local utc; do
+    status=0
+    /usr/bin/time -f '%e s (%U of the processor), %M KB' -o "$scratch/time" "$program" "$scratch/$ends.ics" "$scratch/$ends.ics" --differences >"$scratch/said" || status=$?
+    printf 'ends in %s: status %s, %s, %s\n' "$ends" "$status" "$(tail -n 1 "$scratch/time")" "$(tail -n 1 "$scratch/said")"
 done

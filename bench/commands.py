@@ -2,8 +2,8 @@
 """bench/commands.py [--check]
 
 Writes what commands.txt says of each command and language to the pages and scripts that name them: the help of the wrapper `rr`, the
-completions of three shells, the synopsis of docs/rr.1 and two tables of README.md. With --check it writes nothing; it compares these, and the usage
-line in code, in its definition and in the worked cases, names each place that is not so, and prints 'N passed, M failed'.
+completions of three shells, the synopsis of docs/rr.1, two tables of README.md, and the table of rr_notes. With --check it writes nothing; it
+compares these, and the usage line in code, in its definition and in the worked cases, names each place that is not so, and prints 'N passed, M failed'.
 Python 3 and its standard library are enough.
 """
 import re
@@ -13,12 +13,29 @@ from pathlib import Path
 
 TOP = Path(__file__).resolve().parent.parent
 TABLE = "commands.txt"
+REFUSALS = "docs/REFUSALS.md"
+VERSION = "release/VERSION"
 OPERANDS = ("A", "B")
+# Words that stand for one of a few names: the languages to translate to, the commands, the refusals.
+NAMED = ("LANG", "[COMMAND]", "REFUSAL")
 BEGIN, END = "commands.txt: BEGIN", "commands.txt: END"
 USAGE_LINES = [
     "crates/rr_answer/src/words.rt", "crates/rr_answer/specs/Command.antt",
-    "tests/cases/usage.txt", "tests/cases/rscale.txt",
+    "tests/cases/usage.txt", "tests/cases/rscale.txt", "tests/cases/notes.txt",
 ]
+
+
+HELP_END = """
+  rr check rrule:event.ics
+  rr equal rrule:sent.ics graph:received.json
+  rr translate vcal rrule:event.ics >event.vcs
+
+The status is 0 for yes or done, 1 for no, 2 if an operand is refused, 3 for words that are no command, 4 if an operand could not be
+read, 5 if the output could not be written, 6 out of memory, 7 if a word is no text in UTF-8.
+
+'rr help COMMAND' says more of a command, as 'rr help list', and 'rr explain REFUSAL' of a refusal, as 'rr explain UtcMoment'. The manual is
+docs/MANUAL.md, and share/doc/rr/MANUAL.md in the folder of an installation.
+"""
 
 
 @dataclass
@@ -84,8 +101,8 @@ def read_table(text):
 def check_table(table):
     """Each group and language has the texts that the pages need, and the usage line names commands."""
     for group in table.groups:
-        if not {"takes", "help", "page"} <= group.told.keys() <= {"takes", "help", "page", "man"}:
-            fail(f"{group.commands[0].name}: takes, help and page are wanted, and man is allowed")
+        if not {"takes", "help", "page"} <= group.told.keys() <= {"takes", "help", "page", "man", "numbers"}:
+            fail(f"{group.commands[0].name}: takes, help and page are wanted, man and numbers are allowed")
     for name, told in table.languages.items():
         if not {"states", "help", "page"} <= told.keys() <= {"states", "help", "page", "target", "also"}:
             fail(f"{name}: states, help and page are wanted, target and also are allowed")
@@ -103,12 +120,18 @@ def targets(table):
     return [name for name, told in table.languages.items() if "target" in told]
 
 
-def help_lines(table):
-    """A here-document, whose marks stand around the whole command of the shell."""
-    lines = [f"  rr {group.commands[0].text():<19} {group.told['help']}" for group in table.groups]
-    lines += ["", "A and B are LANG:FILE or LANG@OFFSET:FILE. OFFSET is as +01:00, FILE a file, or - for standard input, and LANG one of"]
+def help_page(table):
+    lines = ["rr says whether a repeating series survived a trip between calendars, for all years to come.", ""]
+    lines += [f"  rr {group.commands[0].text():<19} {group.told['help']}" for group in table.groups]
+    lines += ["", "A and B are LANG:FILE or LANG@OFFSET:FILE. OFFSET is as +01:00, or zone, which reads moments in UTC by the VTIMEZONE of the file"]
+    lines += ["(rrule and rscale); FILE is a file, or - for standard input, and LANG one of"]
     lines += ["", *(f"  {name:<8} {told['help']}" for name, told in table.languages.items())]
-    return "".join(f"{line}\n" for line in ["    cat <<'END'", *lines, "END"])
+    return "".join(f"{line}\n" for line in lines) + HELP_END
+
+
+def wrapper_help(table):
+    """A here-document, whose marks stand around the whole command of the shell."""
+    return f"    cat <<'END'\n{help_page(table)}END\n"
 
 
 def command_table(table):
@@ -141,26 +164,26 @@ def synopsis(table):
         for command in group.commands:
             small = " ".join(word if word in OPERANDS else word.lower() for word in command.words)
             alike.setdefault(group.told.get("man", small), []).append(command.name)
-    return "".join(f".Nm\n.Cm {' | '.join(names)}\n.Ar {words}\n" for words, names in alike.items())
+
+    def said(words):
+        return f".Op Ar {words[1:-1]}\n" if words.startswith("[") else f".Ar {words}\n" if words else ""
+
+    return "".join(f".Nm\n.Cm {' | '.join(names)}\n{said(words)}" for words, names in alike.items())
 
 
 def plain_places(table):
-    """The places whose word is no operand and no language, as number:name; the first word after the name is number 3."""
-    places = [f"{3 + place}:{it.name}" for it in table.commands() for place, word in enumerate(it.words) if word not in (*OPERANDS, "LANG")]
-    return [*places, "3:help"]
-
-
-def completed(table):
-    return [*table.names(), "help"]
+    """The places whose word is neither an operand nor one of a few names, as number:name; the first word after the name is number 3."""
+    places = [f"{3 + place}:{it.name}" for it in table.commands() for place, word in enumerate(it.words) if word not in (*OPERANDS, *NAMED)]
+    return places
 
 
 def bash(table):
-    sets = {"commands": completed(table), "languages": table.languages, "targets": targets(table), "plain": plain_places(table)}
+    sets = {"commands": table.names(), "languages": table.languages, "targets": targets(table), "refusals": refusals(), "plain": plain_places(table)}
     return "".join(f"    local {name}='{' '.join(words)}'\n" for name, words in sets.items())
 
 
 def zsh(table):
-    sets = {"names": completed(table), "languages": table.languages, "targets": targets(table), "plain": plain_places(table)}
+    sets = {"names": table.names(), "languages": table.languages, "targets": targets(table), "refusals": refusals(), "plain": plain_places(table)}
     return "".join(f"    {name}=({' '.join(words)})\n" for name, words in sets.items())
 
 
@@ -172,14 +195,173 @@ def fish(table):
                 asked.setdefault(2 + place, []).append(command.name)
     operands = "; or ".join(f"__rr_at {place} {' '.join(asked[place])}" for place in sorted(asked))
     return f"""set -g __rr_languages {' '.join(table.languages)}
-complete -c rr -n '__rr_at 1' -a '{' '.join(completed(table))}'
+complete -c rr -n '__rr_at 1; or __rr_at 2 help' -a '{' '.join(table.names())}'
 complete -c rr -n '__rr_at 2 translate' -a '{' '.join(targets(table))}'
+complete -c rr -n '__rr_at 2 explain' -a '{' '.join(refusals())}'
 complete -c rr -n '{operands}' -a '(__rr_operands)'
 """
 
 
+def ranges(group):
+    """The least and the most of each number of a group, by its word."""
+    numbers = group.told.get("numbers", "").split()
+    return {word: (least, most) for word, least, most in zip(numbers[::3], numbers[1::3], numbers[2::3])}
+
+
+def form(group, command):
+    """The words of a command with what notes need to know of each."""
+
+    def told(word):
+        if word in ranges(group):
+            return f"{word}={'-'.join(ranges(group)[word])}"
+        return f"{word}:series" if word in OPERANDS and group.told["takes"] == "series" else word
+
+    return " ".join([command.name, *map(told, command.words)])
+
+
+def notes(table):
+    forms = "".join(f"{form(group, command)}\n" for group in table.groups for command in group.commands)
+    series = [name for name, told in table.languages.items() if told["states"] == "series"]
+    sets = {"LANGUAGES": table.languages, "SERIES": series, "TARGETS": targets(table)}
+    lines = "".join(f'\npub const {name}: &str = "{" ".join(words)}";\n' for name, words in sets.items())
+    return f'pub const FORMS: &str = "\\\n{forms}";\n{lines}'
+
+
+# ---- what `help`, `version` and `explain` print
+
+
+def plain(cell):
+    """The text of a table's cell, without marks and links."""
+    cell = re.sub(r"\[([^\]]*)\]\([^)]*\)", r"\1", cell.strip())
+    return re.sub(r"\*(\w+)\*", lambda it: it[1].upper(), cell).replace("`", "")
+
+
+def grouped(number):
+    return f"{int(number):,}"
+
+
+def listed(names):
+    *front, last = names
+    return f"{', '.join(front)} or {last}" if front else last
+
+
+def said_of_operands(table, group, words):
+    """What an operand is, in the languages that the commands of a group take."""
+    also = [(name, told["also"].split()) for name, told in table.languages.items() if "also" in told]
+    names = [name for name, told in table.languages.items() if group.told["takes"] != "series" or told["states"] == "series"]
+    beside = [f", and with {word} also {name}" for name, (command, word) in also if group.told["takes"] == "series" and command in words]
+    what = "A is" if "B" not in words else "A and B are"
+    return f"{what} LANG:FILE or LANG@OFFSET:FILE, as rrule:event.ics; LANG is {listed(names)}{''.join(beside)}."
+
+
+def command_page(table, group):
+    """What is said of the commands of a group: their words, what they print, and what their words are."""
+    words = [word for command in group.commands for word in (command.name, *command.words)]
+    lines = [f"rr {command.text()}" for command in group.commands]
+    lines += ["", f"It prints {plain(group.told['page'])}."]
+    lines += [f"{word} is a number from {grouped(least)} to {grouped(most)}." for word, (least, most) in ranges(group).items()]
+    for word in ("MOMENT", "FROM", "TO"):
+        if word in words:
+            lines += [f"{word} is a date or a moment of the years 1 to 9999, as 2024-02-29 or 2024-02-29T09:30:00."]
+    if "translate" in words:
+        lines += [f"LANG is {listed(targets(table))}."]
+    if "A" in words:
+        lines += [said_of_operands(table, group, words)]
+    return "".join(f"{line}\n" for line in lines)
+
+
+def refusal_rows():
+    """The rows of docs/REFUSALS.md by the name of the refusal: when it comes, in which languages, and what to do."""
+    rows = {}
+    for line in (TOP / REFUSALS).read_text().splitlines():
+        cells = [plain(cell) for cell in line.strip("|").split("|")]
+        if len(cells) == 6 and re.fullmatch(r"[A-Z][A-Za-z]+( [A-Z]+)?", cells[0]) and cells[0] != "Name":
+            rows.setdefault(cells[0].split()[0], []).append(cells[:4])
+    return rows
+
+
+def refusals():
+    return list(refusal_rows())
+
+
+def refusal_page(rows):
+    pages = []
+    for name, comes, languages, advice in rows:
+        pages.append(f"{name}\n\nIt comes if {comes}.\nLanguages: {languages}.\nWhat to do: {advice}.\n")
+    return "\n".join(pages)
+
+
+def name_of(prefix, name):
+    """The name of a text in code, as EXPLAIN_UTC_MOMENT."""
+    return f"{prefix}_{re.sub(r'(?<=[a-z])(?=[A-Z])', '_', name).upper()}"
+
+
+def texts(table):
+    """The texts by their names in code, and for each lookup which text a word asks for."""
+    made = {"HELP": help_page(table), "VERSION": f"rr {(TOP / VERSION).read_text().strip()}\n"}
+    helped, explained = {}, {}
+    for group in table.groups:
+        name = name_of("HELP", group.commands[0].name)
+        made[name] = command_page(table, group)
+        helped |= {command.name: name for command in group.commands}
+    for refusal, rows in refusal_rows().items():
+        explained[refusal] = name_of("EXPLAIN", refusal)
+        made[explained[refusal]] = refusal_page(rows)
+    for name, text in made.items():
+        if not text.isascii() or "\\" in text:
+            sys.exit(f"{name}: a page of help is in ASCII and without a backslash")
+    return {name: text.replace('"', '\\"') for name, text in made.items()}, {"help_of": helped, "explanation_of": explained}
+
+
+def constant(name, text):
+    """A constant of bytes in the layout of rt fmt, which moves a first line that is too long to a line of its own."""
+    begun = f'pub const {name}: &[u8] ='
+    first = text.split("\n")[0]
+    return f'{begun}{" " if len(begun) + len(first) + 3 <= 100 else chr(10) + "    "}b"{text}";\n\n'
+
+
+def code_pages(table):
+    made, lookups = texts(table)
+    lines = "".join(constant(name, text) for name, text in made.items())
+    for function, named in lookups.items():
+        arms = "".join(f'        "{word}" => Some({name}),\n' for word, name in named.items())
+        lines += f"""pub fn {function}(name: &str) -> Option<&'static [u8]>
+    ensures {{ option_map (λ t. t.now) result ≡ {function} name.now }}
+{{
+    match name {{
+{arms}        _ => None,
+    }}
+}}
+
+"""
+    return lines[:-1]
+
+
+def defined_pages(table):
+    made, lookups = texts(table)
+    codes = {name: 'codes "' + text.replace("\n", "\\n") + '"' for name, text in made.items()}
+    lines = "".join(f"abbrev pub {name.lower()} : List ℕ\n{name.lower()} = {codes[name]}\n\n" for name in ("HELP", "VERSION"))
+    for function, named in lookups.items():
+        tests = [f'if bytes_eq name (codes "{word}") then Some ({codes[name]})\n' for word, name in named.items()]
+        lines += f"abbrev pub {function} : List ℕ → Option (List ℕ)\n{function} name =\n    {'    else '.join(tests)}    else None\n\n"
+    return lines
+
+
+def answers(function):
+    """What proves a lookup: in each arm the word is known, so both sides compute. (A text of some hundred bytes is too long to be searched for.)"""
+
+    def lines(table):
+        named = texts(table)[1][function]
+        return "".join(f"pub returns-in-{word} : goal.returns-in-{word}\nreturns-in-{word} c = rw c.in-{word}.is refl\n\n" for word in named)
+
+    return lines
+
+
 PLACES = {
-    "rr": help_lines, "README.md": tables, "docs/rr.1": synopsis,
+    "crates/rr_answer/src/pages.rt": code_pages, "crates/rr_answer/specs/Pages.antt": defined_pages,
+    "crates/rr_answer/proofs/pages/help_of/Answers.antt": answers("help_of"),
+    "crates/rr_answer/proofs/pages/explanation_of/Answers.antt": answers("explanation_of"),
+    "crates/rr_notes/src/forms.rt": notes, "rr": wrapper_help, "README.md": tables, "docs/rr.1": synopsis,
     "completions/rr.bash": bash, "completions/_rr": zsh, "completions/rr.fish": fish,
 }
 

@@ -15,8 +15,8 @@ PAGES = ["README.md", "docs/MANUAL.md", "docs/PROVED.md"]
 TABLE, MAN, DEFINITION = "commands.txt", "docs/rr.1", "crates/rr_answer/specs/Command.antt"
 PYTHON, PYTHON_SERIES = "python/rr/__init__.py", "python/rr/_series.py"
 CASES = "tests/cases"
-# The command that the Python module gives under another name, and the one that it leaves to `answer`.
-NOT_IN_PYTHON = ("list", "drill")
+# The commands that the Python module gives under other names, and those that it leaves to `answer`.
+NOT_IN_PYTHON = ("list", "from", "between", "drill", "help", "explain", "version")
 WORD = r"(?<![\w-]){}(?![\w-])"
 IN_CODE = r"`{}\b"
 

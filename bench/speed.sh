@@ -92,6 +92,18 @@ counted 3400000 1 'translate graph, one of two years' translate graph "rrule:$sc
 counted 1200000 1 'infer, the same course' infer "rrule:$scratch/two-years"
 counted 3740000000 1 'drill 1 100' drill 1 100
 
+# far NAME SERIES: the first 100 occurrences from the start on, and from the year 9000 on, which costs at most twice as much
+far() {
+    counted "$3" 1 "from, $1, at the start" from 2024-01-01 100 "rrule:$scratch/$2"
+    counted "$((2 * $3))" 1 "from, $1, at the year 9000" from 9000-01-01 100 "rrule:$scratch/$2"
+}
+
+echo 'instructions of a window'
+far 'weekdays' weekdays 170000
+far 'the second Tuesday of each month' second-tuesday 1060000
+far 'leap day' leap-day 940000
+counted 75000 1 'between, a week of the year 9000' between 9000-01-01 9000-01-08 "rrule:$scratch/weekdays"
+
 series long 20240101 'FREQ=MONTHLY;INTERVAL=113'
 several beside 20240101 'FREQ=MONTHLY;INTERVAL=113' 'FREQ=DAILY'
 series january 20240101T000000 'FREQ=SECONDLY;BYMONTH=1'
