@@ -1,0 +1,7 @@
+mod FullLemmas
+mod EditStepLemmas
+mod EditedLemmas
+mod OccursLemmas
+mod FileLemmas
+mod StatedLemmas
+mod Examples

@@ -1,0 +1,128 @@
+// A file that is an iCalendar text (RFC 5545).
+ghost use Rattle.std.specs.Prelude.{◌≡◌, ◌<◌, ◌∷◌, ◌^◌, [], length, map, take, drop, All, IfOk};
+ghost use Rattle.rr_events.specs.Finding.{lines_in};
+ghost use Rattle.rr_seam.specs.Files.{AnswersCalendar};
+ghost use Rattle.rr_icalfile.specs.Calendar.{calendar, calendar_in};
+ghost use Rattle.rr_icalfile.specs.Files.{AnswersFile, IsNumberedPiece, file_fault, has_begin};
+ghost use Rattle.rr_icalfile.specs.Keys.{key_of};
+
+use crate::key::key_of;
+use crate::stated::state_key;
+use rr_events::{Piece, cut_line, find_events};
+use rr_ical::is_named;
+use rr_model::{Fault, NoMemory, Refusal};
+use rr_seam::{EventFile, FileFault, FileRefusal, Key, KeyFault, KeySeries, MAX_FILE};
+use rr_text::without_mark;
+use std::alloc::Global;
+use std::marker::Model;
+
+// Whether some line of a text has the name BEGIN.
+fn has_begin(alloc: Global, text: &[u8]) -> Result<bool, NoMemory>
+    requires { length text.now < 2 ^ 62 }
+    ensures { IfOk result (λ b. b ≡ has_begin text.now) }
+{
+    let mut rest = text;
+    let mut number = 1u64;
+    while let Some(cut) = cut_line(alloc, rest, number)? {
+        if is_named(cut.line.text.as_slice(), b"BEGIN") {
+            return Ok(true);
+        }
+        number = cut.next;
+        rest = cut.after;
+    }
+    Ok(false)
+}
+
+// The refusal of a file for a fault of its components.
+fn file_fault(fault: Fault) -> FileFault
+    ensures { result ≡ file_fault fault }
+{
+    match fault {
+        Fault::NoMemory => FileFault::NoMemory,
+        Fault::Refused(Refusal::BadLine(line)) => FileFault::Refused(FileRefusal::BadLine(line)),
+        Fault::Refused(_) => FileFault::Refused(FileRefusal::BadLine(0)),
+    }
+}
+
+// The events of a file, or why the whole file is refused: `TooLong`, then `NoEvents`, then the first fault of its components.
+fn find_pieces<'a>(alloc: Global, bytes: &'a [u8]) -> Result<Vec<Piece<'a>>, FileFault>
+    ensures answers { AnswersFile bytes.now result }
+    ensures numbered { IfOk result (λ pieces. All IsNumberedPiece pieces.items) }
+{
+    if bytes.len() > MAX_FILE {
+        return Err(FileFault::Refused(FileRefusal::TooLong));
+    }
+    let text = without_mark(bytes);
+    if !has_begin(alloc, text)? {
+        return Err(FileFault::Refused(FileRefusal::NoEvents));
+    }
+    match find_events(alloc, text) {
+        Ok(pieces) => Ok(pieces),
+        Err(fault) => Err(file_fault(fault)),
+    }
+}
+
+// The key of the event of an index.
+fn key_at(alloc: Global, pieces: &[Piece], index: usize) -> Result<Key, NoMemory>
+    requires within { index < length pieces.now }
+    requires numbered { All IsNumberedPiece pieces.now }
+    ensures { IfOk result (λ key. take 1 (drop index (map key_of (map lines_in pieces.now)))
+        ≡ key ∷ []) }
+{
+    key_of(alloc, pieces[index])
+}
+
+/// An iCalendar text, beside a stated offset of local time from UTC in seconds. Contracts see it as the lines of each of its events.
+#[derive(Drop)]
+pub struct IcalFile<'a> {
+    offset: Option<i32>,
+    pieces: Vec<Piece<'a>>,
+}
+
+impl<'a> Model for IcalFile<'a> {
+    ghost use Rattle.std.specs.Prelude.{map, All};
+    ghost use Rattle.rr_events.specs.Finding.{lines_in};
+    ghost use Rattle.rr_icalfile.specs.Calendar.{EventTexts};
+    ghost use Rattle.rr_icalfile.specs.Files.{IsNumberedPiece};
+
+    ghost Value = { EventTexts };
+
+    ghost view = { λ f. record { offset = f.offset; texts = map lines_in f.pieces.items } };
+
+    ghost invariant = { λ f. All IsNumberedPiece f.pieces.items };
+}
+
+impl<'a> IcalFile<'a> {
+    /// The file of these bytes beside a stated offset, or why the whole file is refused: `TooLong` for more than `MAX_FILE` bytes,
+    /// then `NoEvents` if no line has the name BEGIN, then `BadLine` for the first fault of its components.
+    pub fn read(
+        alloc: Global,
+        offset: Option<i32>,
+        bytes: &'a [u8],
+    ) -> Result<IcalFile<'a>, FileFault>
+        ensures { AnswersCalendar calendar_in (calendar offset bytes.now) result }
+    {
+        let pieces = find_pieces(alloc, bytes)?;
+        Ok(IcalFile { offset, pieces })
+    }
+}
+
+impl<'a> EventFile for IcalFile<'a> {
+    ghost use Rattle.rr_icalfile.specs.Calendar.{calendar_in};
+
+    ghost keys = { λ f. (calendar_in f).keys };
+
+    ghost stated = { λ f. (calendar_in f).stated };
+
+    fn count(&self) -> usize {
+        self.pieces.len()
+    }
+
+    fn key_at(&self, alloc: Global, index: usize) -> Result<Key, NoMemory> {
+        key_at(alloc, self.pieces.as_slice(), index)
+    }
+
+    fn key_series(&self, alloc: Global, indexes: &[usize]) -> Result<KeySeries, KeyFault> {
+        state_key(alloc, self.offset, self.pieces.as_slice(), indexes)
+    }
+}

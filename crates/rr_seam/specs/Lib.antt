@@ -1,0 +1,4 @@
+pub mod Keys
+pub mod Steps
+pub mod Stated
+pub mod Files

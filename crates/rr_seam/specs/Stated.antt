@@ -1,0 +1,38 @@
+-- What a file states by its events: the one thing that a comparison knows of its language.
+use Rattle.std.specs.Prelude.{◌≡◌, ℕ, List, Result, Ok, Err, ⊤}
+use Rattle.rr_model.specs.Series.Validity.{IsValidSeries}
+use Rattle.rr_model.specs.declared.rule.Series.{Series}
+use Rattle.rr_seam.specs.declared.file.KeySeries.{KeySeries}
+use Rattle.rr_seam.specs.declared.key.Key.{Key}
+use Rattle.rr_seam.specs.declared.refusal.KeyFault.{KeyFault}
+use Rattle.rr_seam.specs.declared.refusal.KeyFault.TheVariants as key_fault
+use Rattle.rr_seam.specs.declared.refusal.KeyRefusal.{KeyRefusal}
+
+-- What the events of a key state together: their series with its instances as dates, or why they are refused; the place at which a
+-- limit refuses that series; and the names of their zones.
+pub record Stated : Type 0 where
+  pub series : Result Series KeyRefusal
+  pub place : ℕ
+  pub zones : List (List ℕ)
+
+-- A calendar: the keys of its events in their order, and by the indexes of events what they state together.
+pub record Calendar : Type 0 where
+  pub keys : List Key
+  pub stated : List ℕ → Stated
+
+-- the calendar of these keys, whose events state this
+abbrev pub calendar_by : List Key → (List ℕ → Stated) → Calendar
+calendar_by keys stated = record { keys = keys; stated = stated }
+
+-- a valid series is stated, with these zones, and is refused by limits at this place
+pub record IsKeyStated (stated : Stated) (key : KeySeries) : Type 0 where
+  pub states : stated.series ≡ Ok key.series
+  pub valid : IsValidSeries key.series
+  pub at : key.place ≡ stated.place
+  pub zones : key.zones.items ≡ stated.zones
+
+-- the answer is the series that is stated, or its refusal, but out of memory may come in place of each
+abbrev pub AnswersStated : Stated → Result KeySeries KeyFault → Type 0
+AnswersStated stated (Ok key) = IsKeyStated stated key
+AnswersStated stated (Err (key_fault.Refused r)) = stated.series ≡ Err r
+AnswersStated stated (Err key_fault.NoMemory) = ⊤

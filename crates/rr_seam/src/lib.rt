@@ -1,0 +1,10 @@
+//! A file of events, whatever its language: the one thing that a comparison of calendars knows of it.
+#![tactic(auto)]
+
+mod file;
+mod key;
+mod refusal;
+
+pub use file::{EventFile, FileFault, FileRefusal, KeySeries, MAX_FILE};
+pub use key::{Key, compare_keys, copy_key};
+pub use refusal::{KeyFault, KeyRefusal, at_event};
