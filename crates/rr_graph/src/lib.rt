@@ -15,6 +15,7 @@ mod start;
 mod writing;
 mod written;
 
+pub use event::value_in;
 pub use laws::{
     counterpart_has_occurrences, counterpart_is_sound, counterpart_starts_first,
     graph_is_read_back, moving_the_start_keeps_occurrences, refused_where_none_occurs,

@@ -173,7 +173,7 @@ series-valid event v =
       few_dates = v.few_dates;
     }
 
-scan-valid : (offset : Option ℤ) (scan : Scan) (series : VSeries) → vcal_scan offset scan ≡ Ok series → IsValidVSeries series
+pub scan-valid : (offset : Option ℤ) (scan : Scan) (series : VSeries) → vcal_scan offset scan ≡ Ok series → IsValidVSeries series
 scan-valid offset scan series h =
     read-valid vcal_language (vrule_beside offset) IsGoodRule
     (λ start line text stated rule s r. vrule_beside-valid offset start line stated rule (stated_vrule-valid line text stated s) r)

@@ -38,8 +38,8 @@ fn vseries_of(alloc: Global, event: ReadEvent<VRule>) -> Result<VSeries, NoMemor
     })
 }
 
-// Both passes over the used lines of an event.
-fn read_scan(alloc: Global, offset: Option<i32>, scan: &Scan) -> Result<VSeries, Fault>
+/// The series that the used lines of one event state; see `read`, which refuses in the same order.
+pub fn read_scan(alloc: Global, offset: Option<i32>, scan: &Scan) -> Result<VSeries, Fault>
     ensures { Answers (vcal_scan offset scan.now) result }
 {
     let event = event_of(&VcalLanguage, alloc, offset, scan)?;

@@ -15,7 +15,7 @@ mod series;
 mod words;
 mod written;
 
-pub use calendar::read;
+pub use calendar::{read, read_scan};
 pub use counterpart::to_rule;
 pub use laws::{
     counterpart_has_members, counterpart_has_occurrences, counterpart_is_synchronised,

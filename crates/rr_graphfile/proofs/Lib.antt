@@ -1,0 +1,4 @@
+mod ItemLemmas
+mod NameLemmas
+mod InstanceLemmas
+mod FileLemmas

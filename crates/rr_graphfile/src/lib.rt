@@ -1,0 +1,12 @@
+//! A list of events of Microsoft Graph as a file of events: series with the moved and cancelled instances that they list.
+#![tactic(auto)]
+
+mod file;
+mod gather;
+mod instances;
+mod item;
+mod names;
+mod series;
+mod zones;
+
+pub use file::GraphFile;

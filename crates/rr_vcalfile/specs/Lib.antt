@@ -1,0 +1,4 @@
+pub mod Events
+pub mod Stated
+pub mod Parts
+pub mod Files

@@ -1,0 +1,93 @@
+-- What the events of a key state in a vCalendar 1.0 text.
+use Rattle.std.specs.Prelude.{ℕ, Bool, false, if◌then◌else◌, ℤ, List, [], ◌∷◌, codes, map, option_map, slice_get, unwrap_or, Option, None, Some, Result, Ok, Err}
+use Rattle.rr_model.specs.Text.Event.{no_components, scan_of}
+use Rattle.rr_model.specs.Text.Moments.{basic}
+use Rattle.rr_model.specs.Text.UsedLines.{trim}
+use Rattle.rr_model.specs.Vcal.Counterpart.{series_of_vseries}
+use Rattle.rr_model.specs.declared.line.Line.{Line}
+use Rattle.rr_model.specs.declared.refusal.Refusal.TheVariants.{NoStart}
+use Rattle.rr_model.specs.declared.rule.Series.{Series}
+use Rattle.rr_model.specs.declared.stamp.Stamp.{Stamp}
+use Rattle.rr_model.specs.declared.vcal.VSeries.{VSeries}
+use Rattle.rr_events.specs.Own.{first_value, own_lines}
+use Rattle.rr_vcal.specs.Scans.{vcal_scan}
+use Rattle.rr_seam.specs.Stated.{Calendar, Stated}
+use Rattle.rr_seam.specs.Steps.{◌>=>◌, at_event, key_in_turn}
+use Rattle.rr_seam.specs.declared.key.Key.{Key}
+use Rattle.rr_seam.specs.declared.key.Key.TheVariants as key
+use Rattle.rr_seam.specs.declared.refusal.KeyRefusal.{KeyRefusal}
+use Rattle.rr_seam.specs.declared.refusal.KeyRefusal.TheVariants as refusal
+
+-- ---- one event
+
+-- the number of the line that begins an event
+abbrev pub first_line : List Line → ℕ
+first_line [] = 0
+first_line (line ∷ lines) = line.number
+
+-- the key of an event by its first line and the value of its UID (vCalendar 1.0, section 2.2.5)
+abbrev pub key_by : ℕ → List ℕ → Key
+key_by first [] = key.Line first
+key_by first (b ∷ bs) = key.Uid (b ∷ bs)
+
+-- the key of an event
+abbrev pub key_of : List Line → Key
+key_of event = key_by (first_line event) (first_value (codes "UID") (own_lines [] event))
+
+-- the series that an event states of itself
+abbrev pub vseries_of : Option ℤ → List Line → Result VSeries KeyRefusal
+vseries_of offset event = at_event (first_line event) (vcal_scan offset (scan_of false 0 no_components event))
+
+-- the series of RFC 5545 with its occurrences
+abbrev pub series_of : Option ℤ → List Line → Result Series KeyRefusal
+series_of offset event = vseries_of offset event >=> λ series. Ok (series_of_vseries series)
+
+-- a text states a moment of UTC
+abbrev pub states_utc : List ℕ → Bool
+states_utc text = unwrap_or (option_map (λ (stamp : Stamp). stamp.utc) (basic (trim text))) false
+
+-- the zone of an event: `Z` if its start is a moment of UTC; no other zone is stated
+abbrev pub zone_of : List Line → List ℕ
+zone_of event = if states_utc (first_value (codes "DTSTART") (own_lines [] event)) then codes "Z" else []
+
+-- ---- the events of a key
+
+-- a second event of a key is refused: this language has no instances
+abbrev pub with_event : Option (List Line) → List Line → Result (Option (List Line)) KeyRefusal
+with_event None event = Ok (Some event)
+with_event (Some first) event = Err (refusal.TwoSeries (first_line event))
+
+-- the event of an index more, if the file has one
+abbrev pub with_found : Option (List Line) → Option (List Line) → Result (Option (List Line)) KeyRefusal
+with_found gathered None = Ok gathered
+with_found gathered (Some event) = with_event gathered event
+
+-- the event of an index more; an index beyond the last event adds nothing
+abbrev pub with_index : List (List Line) → Option (List Line) → ℕ → Result (Option (List Line)) KeyRefusal
+with_index events gathered i = with_found gathered (slice_get events i)
+
+-- the event of these indexes
+abbrev pub gathered_at : List (List Line) → List ℕ → Result (Option (List Line)) KeyRefusal
+gathered_at events indexes = key_in_turn (with_index events) None indexes
+
+-- what an event states, which a limit refuses at its own line
+abbrev pub event_stated : Option ℤ → List Line → Stated
+event_stated offset event = record { series = series_of offset event; place = first_line event; zones = zone_of event ∷ [] }
+
+-- what is refused states no series
+abbrev pub refused_stated : KeyRefusal → Stated
+refused_stated r = record { series = Err r; place = 0; zones = [] }
+
+-- what the events of a key state, by what is gathered of them; none has no start
+abbrev pub gathered_stated : Option ℤ → Result (Option (List Line)) KeyRefusal → Stated
+gathered_stated offset (Ok (Some event)) = event_stated offset event
+gathered_stated offset (Ok None) = refused_stated (refusal.Event NoStart 0)
+gathered_stated offset (Err r) = refused_stated r
+
+-- what the events of some indexes state together
+unfoldable pub stated_in : Option ℤ → List (List Line) → List ℕ → Stated
+stated_in offset events indexes = gathered_stated offset (gathered_at events indexes)
+
+-- The calendar of these events.
+abbrev pub calendar_of : Option ℤ → List (List Line) → Calendar
+calendar_of offset events = record { keys = map key_of events; stated = stated_in offset events }
