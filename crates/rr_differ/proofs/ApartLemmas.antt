@@ -260,7 +260,7 @@ module _ (s u : Sketch) (apart : s.kind ≡ u.kind → ⊥) where
 -- ---- how far it goes
 
 -- the number of what lies within few steps is not great
-pub not_great : (n : ℕ) (d : Difference) → IsWithinSteps n d → n ≤ 10_000 → (d.at ≤ℤ pos 300_000_000_000_000_000) × IsUpToMaxDay d
+pub not_great : (n : ℕ) (d : Difference) → IsWithinSteps n d → n ≤ 10_001 → (d.at ≤ℤ pos 300_000_000_000_000_000) × IsUpToMaxDay d
 not_great n d near few =
     let high = near.1 in (
       number_high d.kind d.at (omega (arith, ints, high, few)),

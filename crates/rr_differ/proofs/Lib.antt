@@ -5,4 +5,6 @@ pub mod SecondLemmas
 pub mod NextLemmas
 pub mod FoundLemmas
 pub mod ApartLemmas
+pub mod FurtherLemmas
+pub mod FurtherOneLemmas
 mod DifferenceExamples

@@ -1,3 +1,4 @@
 pub mod Apart
 pub mod Differences
+pub mod Further
 pub mod Next

@@ -47,8 +47,8 @@ fn lesser(a: Option<Difference>, b: Option<Difference>) -> Option<Difference>
     }
 }
 
-// The first occurrence of a sequence from this number on, as a difference on its side.
-fn one_from<S: DaySeq>(seq: &S, side: Side, at: i64) -> Option<Difference>
+/// The first occurrence of a sequence from this number on, as a difference on its side.
+pub fn one_from<S: DaySeq>(seq: &S, side: Side, at: i64) -> Option<Difference>
     requires low { earliest_near ≤ℤ day_part (S.sketch seq.now).kind at }
     requires high { day_part (S.sketch seq.now).kind at ≤ℤ pos 2_400_000_000_000 }
     ensures none { IfNone result (HasNoneFrom (S.sketch seq.now) None at) }
@@ -89,7 +89,7 @@ pub fn differences_apart<A: DaySeq, B: DaySeq>(
     requires kinds { (A.sketch a.now).kind ≡ (B.sketch b.now).kind → ⊥ }
     requires short_a { (A.sketch a.now).period ≤ MAX_CYCLE_DAYS }
     requires short_b { (B.sketch b.now).period ≤ MAX_CYCLE_DAYS }
-    requires few { count ≤ 10_000 }
+    requires few { count ≤ 10_001 }
     ensures first { IfOk result (λ ds. AreFirstDifferences (StandsIn (A.sketch a.now))
         (StandsIn (B.sketch b.now)) count ds.items) }
     ensures days { IfOk result (λ ds. All IsUpToMaxDay ds.items) }

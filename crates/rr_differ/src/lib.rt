@@ -4,8 +4,10 @@
 mod apart;
 mod difference;
 mod differences;
+mod further;
 mod next;
 mod one_kind;
 
 pub use difference::Difference;
 pub use differences::first_differences;
+pub use further::{Further, MOST_FURTHER, further_differences};

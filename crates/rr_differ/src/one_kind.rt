@@ -44,7 +44,7 @@ fn differences_from<A: DaySeq, B: DaySeq>(
     requires before { HaveNoneBefore (A.sketch a.now) (B.sketch b.now) low }
     requires short_a { (A.sketch a.now).period ≤ MAX_CYCLE_DAYS }
     requires short_b { (B.sketch b.now).period ≤ MAX_CYCLE_DAYS }
-    requires few { count ≤ 10_000 }
+    requires few { count ≤ 10_001 }
     ensures first { IfOk result (λ ds. AreFirstDifferences (StandsIn (A.sketch a.now))
         (StandsIn (B.sketch b.now)) count ds.items) }
     ensures days { IfOk result (λ ds. All IsUpToMaxDay ds.items) }
@@ -71,7 +71,7 @@ pub fn differences_of_one_kind<A: DaySeq, B: DaySeq>(
     requires kind { (A.sketch a.now).kind ≡ (B.sketch b.now).kind }
     requires short_a { (A.sketch a.now).period ≤ MAX_CYCLE_DAYS }
     requires short_b { (B.sketch b.now).period ≤ MAX_CYCLE_DAYS }
-    requires few { count ≤ 10_000 }
+    requires few { count ≤ 10_001 }
     ensures first { IfOk result (λ ds. AreFirstDifferences (StandsIn (A.sketch a.now))
         (StandsIn (B.sketch b.now)) count ds.items) }
     ensures days { IfOk result (λ ds. All IsUpToMaxDay ds.items) }
