@@ -1,8 +1,9 @@
 -- What is judged of the series of a key.
-use Rattle.std.proofs.Common.{◌≡◌, ℕ, ◌<◌, inl, List, ℤ, Option, None, Some, Result, Ok, Err, refl, subst, sym, ap}
+use Rattle.std.proofs.Common.{◌≡◌, ℕ, ◌<◌, ◌≤◌, inl, inr, Option, None, Some, Result, Ok, Err, refl, subst, sym, ap, arith}
+use Rattle.std.proofs.lemmas.Bool.{cases_lt}
 use Rattle.rr_fold.specs.Judged.{IsFoldJudged, all_limits}
 use Rattle.rr_model.specs.Series.Cycle.{series_cycle}
-use Rattle.rr_model.specs.Series.FirstRefusal.{IsFirstRefusal, IsLimitRefusal}
+use Rattle.rr_model.specs.Series.FirstRefusal.{IsFirstRefusal, IsLimitRefusal, IsRefusalOr}
 use Rattle.rr_model.specs.Series.Occurrences.{Occurs}
 use Rattle.rr_model.specs.Series.Soundness.{first_refusal}
 use Rattle.rr_model.specs.Series.Validity.{IsValidSeries}
@@ -14,12 +15,13 @@ use Rattle.rr_model.specs.declared.refusal.Refusal.{Refusal}
 use Rattle.rr_model.specs.declared.refusal.Refusal.TheVariants.{CycleTooLong}
 use Rattle.rr_model.specs.declared.rule.Series.{Series}
 use Rattle.rr_model.specs.declared.sketch.Sketch.{Sketch}
-use Rattle.rr_trip.specs.Edited.{AnswersKey, KeyEvents, edited_by, fault_at, key_events}
-use Rattle.rr_trip.specs.Judged.{IsFaultBy, IsFaultOf, IsFoldOf, IsKeyFault, IsKeyRefusal, IsRefusalBy, IsStated, first_of, key_zones, line_of, zones_in}
-use Rattle.rr_trip.specs.declared.event.Event.{Event}
-use Rattle.rr_trip.specs.declared.gather.KeyFault.{KeyFault}
-use Rattle.rr_trip.specs.declared.gather.KeyFault.TheVariants as key_fault
-use Rattle.rr_trip.specs.declared.gather.KeyRefusal.{KeyRefusal}
+use Rattle.rr_seam.specs.Stated.{AnswersStated, IsKeyStated, Stated}
+use Rattle.rr_seam.specs.Steps.{fault_at}
+use Rattle.rr_seam.specs.declared.file.KeySeries.{KeySeries}
+use Rattle.rr_seam.specs.declared.refusal.KeyFault.{KeyFault}
+use Rattle.rr_seam.specs.declared.refusal.KeyFault.TheVariants as key_fault
+use Rattle.rr_seam.specs.declared.refusal.KeyRefusal.{KeyRefusal}
+use Rattle.rr_trip.specs.Judged.{IsFaultBy, IsFaultOf, IsFoldOf, IsKeyFault, IsKeyRefusal, IsRefusalBy}
 use Rattle.rr_model.proofs.YearOneLemmas.{occurs_from_year_one}
 
 -- a rule does not fit the start
@@ -34,11 +36,13 @@ module _ (series checked : Series) (same : checked ≡ series) (sound : first_re
       rw sound (inl ((refl, long), ap Some h.0))
 
   -- its days are worked out
-  pub folded : (sketch : Sketch) → IsValidSeries series → StandsFor sketch (Occurs checked) → IsLimitRefusal all_limits checked None → IsFoldOf series sketch
-  folded sketch valid stands judged = record {
+  pub folded : (sketch : Sketch) → IsValidSeries series → StandsFor sketch (Occurs checked) → sketch.period ≡ series_cycle checked
+      → IsLimitRefusal all_limits checked None → IsFoldOf series sketch
+  folded sketch valid stands period judged = record {
     unrefused = rw sound (subst (λ (s : Series). IsLimitRefusal all_limits s None) same judged);
     from_year_one = λ k t h. occurs_from_year_one series k t valid h;
     stands = subst (λ (s : Series). StandsFor sketch (Occurs s)) same stands;
+    period = subst (λ (s : Series). sketch.period ≡ series_cycle s) same period;
   }
 
   -- a limit refuses it, or memory was wanting
@@ -46,39 +50,40 @@ module _ (series checked : Series) (same : checked ≡ series) (sound : first_re
   not_folded X (Refused r) judged = rw sound (subst (λ (s : Series). IsLimitRefusal all_limits s (Some r)) same judged)
   not_folded X NoMemory judged = tt
 
+-- ---- the period of its days
+
+-- if the first refusal is none, nothing was refused before
+none_before : (r : Option Refusal) (next : Option Refusal → Type 0) → IsRefusalOr r next None → next None
+none_before (Some refusal) next h = absurd (cc)
+none_before None next h = h
+
+cycle_is_short : (series : Series) → IsLimitRefusal all_limits series None → series_cycle series ≤ MAX_CYCLE_DAYS
+cycle_is_short series (inl h) = (let e = h.1 in absurd (cc))
+cycle_is_short series (inr h) = elim (cases_lt 16_777_216 (series_cycle series)) [ inl l ↦ absurd (h.0 (refl, l)) | inr g ↦ omega (arith, g) ]
+
+-- the days of a series repeat within the limit on cycles
+pub folded_is_short : (series : Series) (sketch : Sketch) → IsFoldOf series sketch → sketch.period ≤ MAX_CYCLE_DAYS
+folded_is_short series sketch fold =
+    subst (λ n. n ≤ MAX_CYCLE_DAYS) (sym fold.period)
+    (cycle_is_short series (none_before (first_refusal series) (IsLimitRefusal all_limits series) fold.unrefused))
+
 -- ---- the events of a key
 
-module _ (offset : Option ℤ) (events : List Event) where
-  pub not_gathered : (f : KeyFault) → AnswersKey (key_events events) (Err f) → IsKeyFault offset events f
-  not_gathered (key_fault.Refused r) h = rw h refl
-  not_gathered key_fault.NoMemory h = tt
+pub fault_by : (place : ℕ) (series : Series) (f : Fault) → IsFaultOf series f → IsFaultBy place series (fault_at place f)
+fault_by place series (Refused r) h = (refl, h)
+fault_by place series NoMemory h = tt
 
-  module _ (all : KeyEvents) (is : key_events events ≡ Ok all) where
-    pub zones_are : (zones : List (List ℕ)) → zones ≡ zones_in all → zones ≡ key_zones events
-    zones_are zones h = rw is h
+-- the refusal of what a key states is that of the key
+pub refusal_stated : (stated : Stated) (key : KeySeries) → IsKeyStated stated key → (r : KeyRefusal) → IsRefusalBy key.place (Ok key.series) r
+    → IsKeyRefusal stated r
+refusal_stated stated key is r h =
+    subst (λ (e : Result Series KeyRefusal). IsRefusalBy stated.place e r) (sym is.states) (subst (λ (n : ℕ). IsRefusalBy n (Ok key.series) r) is.at h)
 
-    pub not_edited : (f : KeyFault) → AnswersKey (edited_by offset all.series all.instances) (Err f) → IsKeyFault offset events f
-    not_edited (key_fault.Refused r) h = rw (is, h) refl
-    not_edited key_fault.NoMemory h = tt
+pub fault_stated : (stated : Stated) (key : KeySeries) → IsKeyStated stated key → (f : KeyFault) → IsFaultBy key.place key.series f → IsKeyFault stated f
+fault_stated stated key is (key_fault.Refused r) h = refusal_stated stated key is r h
+fault_stated stated key is key_fault.NoMemory h = tt
 
-    module _ (series : Series) (states : edited_by offset all.series all.instances ≡ Ok series) where
-      pub stated : (line : ℕ) → line ≡ first_of all.series all.instances → IsValidSeries series → IsStated offset events line series
-      stated line at valid = record { states = rw is states; valid = valid; at = rw is at }
-
--- ---- the series of a key by the limits
-
-pub fault_by : (line : ℕ) (series : Series) (f : Fault) → IsFaultOf series f → IsFaultBy line series (fault_at line f)
-fault_by line series (Refused r) h = (refl, h)
-fault_by line series NoMemory h = tt
-
--- its refusal is that of the key
-pub refusal_stated : (offset : Option ℤ) (events : List Event) (line : ℕ) (series : Series) → IsStated offset events line series → (r : KeyRefusal)
-    → IsRefusalBy line (Ok series) r → IsKeyRefusal offset events r
-refusal_stated offset events line series stated r h =
-    subst (λ (e : Result Series KeyRefusal). IsRefusalBy (line_of (key_events events)) e r) (sym stated.states)
-    (subst (λ (n : ℕ). IsRefusalBy n (Ok series) r) stated.at h)
-
-pub fault_stated : (offset : Option ℤ) (events : List Event) (line : ℕ) (series : Series) → IsStated offset events line series → (f : KeyFault)
-    → IsFaultBy line series f → IsKeyFault offset events f
-fault_stated offset events line series stated (key_fault.Refused r) h = refusal_stated offset events line series stated r h
-fault_stated offset events line series stated key_fault.NoMemory h = tt
+-- no series is stated
+pub not_stated : (stated : Stated) (f : KeyFault) → AnswersStated stated (Err f) → IsKeyFault stated f
+not_stated stated (key_fault.Refused r) h = rw h refl
+not_stated stated key_fault.NoMemory h = tt

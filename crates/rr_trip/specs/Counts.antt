@@ -4,8 +4,8 @@ use Rattle.rr_model.specs.declared.refusal.Refusal.TheVariants.{UtcMoment}
 use Rattle.rr_model.specs.declared.verdict.Side.{Side}
 use Rattle.rr_model.specs.declared.verdict.Side.TheVariants.{A, B, Both}
 use Rattle.rr_model.specs.declared.verdict.Verdict.TheVariants.{Yes, No}
-use Rattle.rr_trip.specs.declared.gather.KeyRefusal.{KeyRefusal}
-use Rattle.rr_trip.specs.declared.gather.KeyRefusal.TheVariants as key_refusal
+use Rattle.rr_seam.specs.declared.refusal.KeyRefusal.{KeyRefusal}
+use Rattle.rr_seam.specs.declared.refusal.KeyRefusal.TheVariants as key_refusal
 use Rattle.rr_trip.specs.declared.report.Counted.{Counted}
 use Rattle.rr_trip.specs.declared.report.Counted.TheVariants as counted
 use Rattle.rr_trip.specs.declared.report.Counts.{Counts}
@@ -50,7 +50,7 @@ is_refused (Compared verdict one_zone) = false
 
 -- a refusal is of a moment in UTC beside local time
 abbrev pub is_utc : KeyRefusal → Bool
-is_utc (key_refusal.Event UtcMoment line) = true
+is_utc (key_refusal.Event UtcMoment place) = true
 is_utc refusal = false
 
 -- the events of the key are refused for a moment in UTC beside local time

@@ -1,13 +1,7 @@
-pub mod Keys
-pub mod Zones
-pub mod Event
 pub mod Entries
-pub mod Edited
-pub mod Instances
 pub mod Judged
 pub mod Same
 pub mod Said
-pub mod Files
 pub mod Report
 pub mod Counts
 pub mod Printed

@@ -1,5 +1,5 @@
 -- The lines of a report as they are printed.
-use Rattle.std.specs.Prelude.{ℕ, ◌+◌, ◌-◌, ◌/◌, ◌%◌, ◌==◌, nat_lt, Bool, true, false, not, ◌&&◌, ◌||◌, if◌then◌else◌, List, [], ◌∷◌, ◌++◌, codes}
+use Rattle.std.specs.Prelude.{⊤, ℕ, ◌+◌, ◌-◌, ◌/◌, ◌%◌, ◌==◌, nat_lt, Bool, true, false, not, ◌&&◌, ◌||◌, if◌then◌else◌, List, [], ◌∷◌, ◌++◌, codes}
 use Rattle.std.specs.Fmt.{decimal}
 use Rattle.rr_model.specs.Text.Moments.{extended_text}
 use Rattle.rr_model.specs.Text.Refusals.{refusal_text}
@@ -8,18 +8,20 @@ use Rattle.rr_model.specs.declared.refusal.Refusal.TheVariants.{BadLine, BadMome
 use Rattle.rr_model.specs.declared.verdict.Side.{Side}
 use Rattle.rr_model.specs.declared.verdict.Verdict.{Verdict}
 use Rattle.rr_model.specs.declared.verdict.Verdict.TheVariants.{Yes, No}
+use Rattle.rr_differ.specs.declared.further.Further.{Further}
+use Rattle.rr_differ.specs.declared.further.Further.TheVariants.{NoMore, Until, Many, ForEver}
+use Rattle.rr_seam.specs.declared.file.FileRefusal.{FileRefusal}
+use Rattle.rr_seam.specs.declared.file.FileRefusal.TheVariants as file
+use Rattle.rr_seam.specs.declared.refusal.KeyRefusal.{KeyRefusal}
+use Rattle.rr_seam.specs.declared.refusal.KeyRefusal.TheVariants as refusal
+use Rattle.rr_seam.specs.declared.key.Key.{Key}
+use Rattle.rr_seam.specs.declared.key.Key.TheVariants as key
 use Rattle.rr_trip.specs.Counts.{counts_of, has_other_zone, is_equal}
-use Rattle.rr_trip.specs.declared.file.FileRefusal.{FileRefusal}
-use Rattle.rr_trip.specs.declared.file.FileRefusal.TheVariants as file
-use Rattle.rr_trip.specs.declared.gather.KeyRefusal.{KeyRefusal}
-use Rattle.rr_trip.specs.declared.gather.KeyRefusal.TheVariants as refusal
-use Rattle.rr_trip.specs.declared.key.Key.{Key}
-use Rattle.rr_trip.specs.declared.key.Key.TheVariants as key
 use Rattle.rr_trip.specs.declared.report.Counts.{Counts}
 use Rattle.rr_trip.specs.declared.report.ReportLine.{ReportLine}
 use Rattle.rr_trip.specs.declared.said.Said.{Said}
 use Rattle.rr_trip.specs.declared.said.Said.TheVariants.{Only, Refused, Compared}
-use Rattle.rr_text.specs.Printed.{side_text}
+use Rattle.rr_text.specs.Printed.{IsPrintableAt, side_text}
 
 -- ---- keys
 
@@ -52,6 +54,7 @@ asked_text (b ∷ bs) = asked_byte b ++ asked_text bs
 -- a key as it is printed
 abbrev pub key_text : Key → List ℕ
 key_text (key.Line number) = codes "line " ++ decimal number
+key_text (key.Number number) = codes "event " ++ decimal number
 key_text (key.Uid uid) = escaped_text uid
 
 -- ---- refusals
@@ -68,23 +71,30 @@ has_number (NotSynchronised rule) = true
 has_number (NotRising line) = true
 has_number refusal = false
 
--- the refusal of an event, with its own number, else with the line of the event's BEGIN
+-- the refusal of an event, with its own number, otherwise with the place of the event
 abbrev pub event_refusal_text : Refusal → ℕ → List ℕ
-event_refusal_text r line = if has_number r then refusal_text r else refusal_text r ++ codes " " ++ decimal line
+event_refusal_text r place = if has_number r then refusal_text r else refusal_text r ++ codes " " ++ decimal place
 
 -- the refusal of the events of a key
 abbrev pub key_refusal_text : KeyRefusal → List ℕ
-key_refusal_text (refusal.Event r line) = event_refusal_text r line
-key_refusal_text (refusal.Range line) = codes "Range " ++ decimal line
-key_refusal_text (refusal.TwoSeries line) = codes "TwoSeries " ++ decimal line
-key_refusal_text (refusal.TwoInstances line) = codes "TwoInstances " ++ decimal line
-key_refusal_text (refusal.ExcludedRule line) = codes "ExcludedRule " ++ decimal line
+key_refusal_text (refusal.Event r place) = event_refusal_text r place
+key_refusal_text (refusal.Range place) = codes "Range " ++ decimal place
+key_refusal_text (refusal.TwoSeries place) = codes "TwoSeries " ++ decimal place
+key_refusal_text (refusal.TwoInstances place) = codes "TwoInstances " ++ decimal place
+key_refusal_text (refusal.ExcludedRule place) = codes "ExcludedRule " ++ decimal place
+key_refusal_text (refusal.NoType place) = codes "NoType " ++ decimal place
+key_refusal_text (refusal.NotExpanded place) = codes "NotExpanded " ++ decimal place
+key_refusal_text (refusal.NoMaster place) = codes "NoMaster " ++ decimal place
+key_refusal_text (refusal.BadInstance place) = codes "BadInstance " ++ decimal place
 
 -- the name of the refusal of a whole file, as it is printed
 abbrev pub file_refusal_text : FileRefusal → List ℕ
 file_refusal_text file.TooLong = codes " TooLong"
 file_refusal_text file.NoEvents = codes " NoEvents"
 file_refusal_text (file.BadLine line) = codes " BadLine " ++ decimal line
+file_refusal_text file.BadJson = codes " BadJson"
+file_refusal_text file.MorePages = codes " MorePages"
+file_refusal_text (file.BadEvent event) = codes " BadEvent " ++ decimal event
 
 -- the line that refuses a whole file
 abbrev pub file_refusal_line : Side → FileRefusal → List ℕ
@@ -96,6 +106,20 @@ file_refusal_line side r = codes "refused " ++ side_text side ++ file_refusal_te
 abbrev pub verdict_text : List ℕ → Verdict → List ℕ
 verdict_text key Yes = codes "equal " ++ key
 verdict_text key (No kind at side) = codes "differs " ++ key ++ codes " no " ++ extended_text kind at ++ codes " " ++ side_text side
+
+-- how many occurrences exactly one of both has beside the first, and which is the last of them
+abbrev pub further_text : Further → List ℕ
+further_text NoMore = codes "more 0\n"
+further_text (Until count last) = codes "more " ++ decimal count ++ codes " until " ++ extended_text last.kind last.at ++ codes "\n"
+further_text Many = codes "more 9999 at least\n"
+further_text ForEver = codes "more for ever\n"
+
+-- the last of them can be printed, if it is told
+abbrev pub IsPrintableFurther : Further → Type 0
+IsPrintableFurther NoMore = ⊤
+IsPrintableFurther (Until count last) = IsPrintableAt last.kind last.at
+IsPrintableFurther Many = ⊤
+IsPrintableFurther ForEver = ⊤
 
 -- what stands behind the line of a key: the mark of zones that differ
 abbrev pub zone_text : Bool → List ℕ

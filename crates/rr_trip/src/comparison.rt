@@ -1,28 +1,25 @@
-// Two calendar files, key by key.
-ghost use Rattle.std.specs.Prelude.{◌≡◌, [], map, All, IfOk, MatchOption};
-ghost use Rattle.rr_events.specs.Finding.{lines_in};
-ghost use Rattle.rr_trip.specs.Entries.{IsNumbered, IsNumberedPiece};
-ghost use Rattle.rr_trip.specs.Report.{AnswersTrip, AreLinesOf, IsLineOf, IsReport, IsRunAt, IsRunCount};
+// Two calendars, key by key.
+ghost use Rattle.std.specs.Prelude.{◌≡◌, [], IfOk, MatchOption};
+ghost use Rattle.rr_seam.specs.Stated.{calendar_by};
+ghost use Rattle.rr_trip.specs.Report.{AreLinesOf, IsLineOf, IsReport, IsRunAt, IsRunCount};
 
-use crate::entry::{Entry, count_of_a, count_of_key, sorted_entries};
-use crate::file::{TripFault, read_file};
-use crate::key::{Key, copy_key};
+use crate::entry::{Entry, count_of_a, count_of_key, indexes_of, sorted_entries};
 use crate::report::{Report, ReportLine};
 use crate::said::said_of;
 use crate::watch::Watch;
-use rr_events::Piece;
-use rr_model::{NoMemory, Side};
+use rr_model::NoMemory;
+use rr_seam::{EventFile, Key, copy_key};
 use std::alloc::Global;
 
 // The entries at the front that have the key of the first.
 #[derive(Clone, Copy)]
-struct Run<'a, 'b> {
-    first: &'b Entry<'a>,
-    entries: &'b [Entry<'a>],
+struct Run<'a> {
+    first: &'a Entry,
+    entries: &'a [Entry],
 }
 
 // The first run of sorted entries.
-fn first_run<'a, 'b>(entries: &'b [Entry<'a>]) -> Option<Run<'a, 'b>>
+fn first_run(entries: &[Entry]) -> Option<Run<'_>>
     ensures { MatchOption result (entries.now ≡ [])
         (λ run. IsRunAt entries.now run.first.now run.entries.now) }
 {
@@ -48,94 +45,80 @@ fn count_keys(entries: &[Entry]) -> usize
 }
 
 // What is said of a run of this key, whose entries of A come first.
-fn line_of(
+fn line_of<A: EventFile, B: EventFile>(
     alloc: Global,
-    offset: Option<i32>,
+    a: &A,
+    b: &B,
     key: &Key,
     run: &[Entry],
 ) -> Result<ReportLine, NoMemory>
-    requires { All IsNumbered run.now }
-    ensures { IfOk result (λ line. IsLineOf offset key.now run.now line) }
+    ensures { IfOk result (λ line. IsLineOf
+        (calendar_by (A.keys a.now) (A.stated a.now)) (calendar_by (B.keys b.now) (B.stated b.now))
+        key.now run.now line) }
 {
     let key = copy_key(alloc, key)?;
-    let (a, b) = run.split_at(count_of_a(run));
+    let (of_a, of_b) = run.split_at(count_of_a(run));
+    let of_a = indexes_of(alloc, of_a)?;
+    let of_b = indexes_of(alloc, of_b)?;
     Ok(ReportLine {
         key,
-        said: said_of(alloc, offset, a, b)?,
+        said: said_of(alloc, a, &of_a, b, &of_b)?,
     })
 }
 
 // What is said of each key of sorted entries.
-fn lines_of<W: Watch>(
+fn lines_of<A: EventFile, B: EventFile, W: Watch>(
     alloc: Global,
-    offset: Option<i32>,
+    a: &A,
+    b: &B,
     entries: &[Entry],
     watch: &mut W,
 ) -> Result<Vec<ReportLine>, NoMemory>
-    requires { All IsNumbered entries.now }
-    ensures { IfOk result (λ lines. AreLinesOf offset entries.now lines.items) }
+    ensures { IfOk result (λ lines. AreLinesOf
+        (calendar_by (A.keys a.now) (A.stated a.now)) (calendar_by (B.keys b.now) (B.stated b.now))
+        entries.now lines.items) }
 {
     let keys = count_keys(entries);
     let mut lines = Vec::new(alloc);
     let mut start = 0;
     while let Some(run) = first_run(&entries[start..]) {
-        lines.push(line_of(alloc, offset, &run.first.key, run.entries)?)?;
+        lines.push(line_of(alloc, a, b, &run.first.key, run.entries)?)?;
         start += run.entries.len();
         watch.on_judged(lines.len(), keys);
     }
     Ok(lines)
 }
 
-// The report of the events of two calendars.
-fn report_of_events<W: Watch>(
+// The report of two calendars.
+fn report_of<A: EventFile, B: EventFile, W: Watch>(
     alloc: Global,
-    offset: Option<i32>,
-    a: &[Piece],
-    b: &[Piece],
+    a: &A,
+    b: &B,
     watch: &mut W,
 ) -> Result<Report, NoMemory>
-    requires a { All IsNumberedPiece a.now }
-    requires b { All IsNumberedPiece b.now }
-    ensures { IfOk result (λ report. IsReport offset (map lines_in a.now) (map lines_in b.now)
+    ensures { IfOk result (λ report. IsReport
+        (calendar_by (A.keys a.now) (A.stated a.now)) (calendar_by (B.keys b.now) (B.stated b.now))
         report.lines.items) }
 {
     let entries = sorted_entries(alloc, a, b)?;
     Ok(Report {
-        lines: lines_of(alloc, offset, &entries, watch)?,
+        lines: lines_of(alloc, a, b, &entries, watch)?,
     })
 }
 
-// The report of two calendar files.
-fn report_of<W: Watch>(
+/// Compares two calendars, each in its language: each key of either has one line, in the order of the keys, which says what is
+/// so of its events. The watch is told of each key that is judged, and that the comparison has ended.
+pub fn compare<A: EventFile, B: EventFile, W: Watch>(
     alloc: Global,
-    offset: Option<i32>,
-    old: &[u8],
-    new: &[u8],
+    a: &A,
+    b: &B,
     watch: &mut W,
-) -> Result<Report, TripFault>
-    ensures { AnswersTrip offset old.now new.now result }
+) -> Result<Report, NoMemory>
+    ensures { IfOk result (λ report. IsReport
+        (calendar_by (A.keys a.now) (A.stated a.now)) (calendar_by (B.keys b.now) (B.stated b.now))
+        report.lines.items) }
 {
-    let a = read_file(alloc, Side::A, old)?;
-    let b = read_file(alloc, Side::B, new)?;
-    Ok(report_of_events(alloc, offset, &a, &b, watch)?)
-}
-
-/// Compares two calendar files: each key of either has one line, in the order of the keys, which says what is so of its
-/// events. The offset is local time less UTC in seconds; see `rr_rrule::read`. The watch is told of each key that is judged, and
-/// that the comparison has ended.
-///
-/// A file is refused as a whole as `TooLong`, `NoEvents` or `BadLine`; then nothing is said of keys, and nothing of B where A is
-/// refused.
-pub fn compare<W: Watch>(
-    alloc: Global,
-    offset: Option<i32>,
-    old: &[u8],
-    new: &[u8],
-    watch: &mut W,
-) -> Result<Report, TripFault>
-    ensures { AnswersTrip offset old.now new.now result }
-{
-    let answered = report_of(alloc, offset, old, new, watch);
+    let answered = report_of(alloc, a, b, watch);
     watch.on_ended();
     answered
 }

@@ -1,51 +1,47 @@
 // The events of both calendars, sorted by their keys.
-ghost use Rattle.std.specs.Prelude.{◌≡◌, ◌++◌, length, take_while, map, All, IfOk, OnOk};
-ghost use Rattle.rr_trip.specs.Entries.{IsNumberedPiece, IsSortedOf, entries_of, entry_of, has_key, is_of_a};
+ghost use Rattle.std.specs.Prelude.{◌≡◌, ◌++◌, length, take_while, IfOk, OnOk};
+ghost use Rattle.rr_trip.specs.Entries.{IsSortedOf, entries_from, entries_of, has_key, indexes_in, is_of_a};
 
-use crate::key::{Key, compare_keys, key_of};
-use rr_events::Piece;
 use rr_model::{NoMemory, Side};
+use rr_seam::{EventFile, Key, compare_keys};
 use std::alloc::Global;
 
 /// An event of one of the two calendars.
 #[derive(Drop)]
-pub struct Entry<'a> {
+pub struct Entry {
     /// What it is found again by.
     pub key: Key,
     /// The calendar.
     pub side: Side,
-    /// Its part of the text.
-    pub piece: Piece<'a>,
+    /// Its index in its calendar.
+    pub index: usize,
 }
 
 // Puts the events of one calendar.
-fn put_entries<'a>(
+fn put_entries<F: EventFile>(
     alloc: Global,
     side: Side,
-    pieces: &[Piece<'a>],
-    entries: &mut Vec<Entry<'a>>,
+    file: &F,
+    entries: &mut Vec<Entry>,
 ) -> Result<(), NoMemory>
-    requires { All IsNumberedPiece pieces.now }
     ensures { OnOk result (entries.new.items
-        ≡ entries.old.items ++ map (entry_of side) pieces.now) }
+        ≡ entries.old.items ++ entries_from side 0 (F.keys file.now)) }
 {
-    for piece in pieces {
-        let piece = *piece;
-        let key = key_of(alloc, piece)?;
-        entries.push(Entry { key, side, piece })?;
+    for index in 0..file.count() {
+        let key = file.key_at(alloc, index)?;
+        entries.push(Entry { key, side, index })?;
     }
     Ok(())
 }
 
 /// The events of A and then those of B, sorted by their keys; those of one key stay in this order.
-pub fn sorted_entries<'a>(
+pub fn sorted_entries<A: EventFile, B: EventFile>(
     alloc: Global,
-    a: &[Piece<'a>],
-    b: &[Piece<'a>],
-) -> Result<Vec<Entry<'a>>, NoMemory>
-    requires a { All IsNumberedPiece a.now }
-    requires b { All IsNumberedPiece b.now }
-    ensures { IfOk result (λ entries. IsSortedOf (entries_of a.now b.now) entries.items) }
+    a: &A,
+    b: &B,
+) -> Result<Vec<Entry>, NoMemory>
+    ensures { IfOk result (λ entries. IsSortedOf (entries_of (A.keys a.now) (B.keys b.now))
+        entries.items) }
 {
     let mut entries = Vec::new(alloc);
     put_entries(alloc, Side::A, a, &mut entries)?;
@@ -72,4 +68,15 @@ pub fn count_of_a(entries: &[Entry]) -> usize
         .iter()
         .take_while(|entry| entry.side == Side::A)
         .count()
+}
+
+/// The indexes of entries.
+pub fn indexes_of(alloc: Global, entries: &[Entry]) -> Result<Vec<usize>, NoMemory>
+    ensures { IfOk result (λ indexes. indexes.items ≡ indexes_in entries.now) }
+{
+    let mut indexes = Vec::new(alloc);
+    for entry in entries {
+        indexes.push(entry.index)?;
+    }
+    Ok(indexes)
 }

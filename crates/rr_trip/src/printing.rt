@@ -2,15 +2,14 @@
 ghost use Rattle.std.specs.Prelude.{◌≡◌, ◌<◌, ◌++◌, All, IfOk, OnOk};
 ghost use Rattle.std.specs.Fmt.{decimal};
 ghost use Rattle.rr_text.specs.Printed.{IsPrintable};
-ghost use Rattle.rr_trip.specs.Printed.{asked_byte, asked_text, counts_text, escaped_text, escaped_byte, event_refusal_text, file_refusal_line, has_number, hex_digit, is_difference, key_refusal_text, key_text, line_text, lines_text, report_text, said_text, verdict_text};
+ghost use Rattle.rr_trip.specs.Printed.{IsPrintableFurther, asked_byte, asked_text, counts_text, escaped_text, escaped_byte, event_refusal_text, file_refusal_line, further_text, has_number, hex_digit, is_difference, key_refusal_text, key_text, line_text, lines_text, report_text, said_text, verdict_text};
 ghost use Rattle.rr_trip.specs.Said.{IsPrintableSaid};
 
-use crate::file::FileRefusal;
-use crate::gather::KeyRefusal;
-use crate::key::Key;
 use crate::report::{Counts, Report, ReportLine, has_other_zone, is_equal};
 use crate::said::Said;
+use rr_differ::Further;
 use rr_model::{NoMemory, Refusal, Side, Verdict};
+use rr_seam::{FileRefusal, Key, KeyRefusal};
 use rr_text::{push_extended, push_unsigned, side_text};
 use std::alloc::Global;
 
@@ -75,16 +74,22 @@ pub fn push_asked(out: &mut Vec<u8>, name: &[u8]) -> Result<(), NoMemory>
     Ok(())
 }
 
-/// Appends a key: `line` and the number of the event's line, or the UID, in which a byte that is a blank, a control character, a
-/// backslash or not ASCII is written as `\x` and two hexadecimal digits.
+// A text and a number.
+fn push_numbered(out: &mut Vec<u8>, text: &[u8], number: u64) -> Result<(), NoMemory>
+    ensures { OnOk result (out.new.items ≡ out.old.items ++ text.now ++ decimal number) }
+{
+    push(out, text)?;
+    push_unsigned(out, number)
+}
+
+/// Appends a key: `line` and the number of the event's line, `event` and its number in a list, or its name, in which a byte that
+/// is a blank, a control character, a backslash or not ASCII is written as `\x` and two hexadecimal digits.
 pub fn push_key(out: &mut Vec<u8>, key: &Key) -> Result<(), NoMemory>
     ensures { OnOk result (out.new.items ≡ out.old.items ++ key_text key.now) }
 {
     match key {
-        Key::Line(number) => {
-            push(out, b"line ")?;
-            push_unsigned(out, *number)
-        }
+        Key::Line(number) => push_numbered(out, b"line ", *number),
+        Key::Number(number) => push_numbered(out, b"event ", *number),
         Key::Uid(uid) => push_escaped(out, uid.as_slice()),
     }
 }
@@ -106,40 +111,36 @@ fn has_number(refusal: Refusal) -> bool
     )
 }
 
-// The refusal of an event, with its own number, else with the line of the event's BEGIN.
+// The refusal of an event, with its own number, otherwise with the place of the event.
 fn push_event_refusal(
     alloc: Global,
     out: &mut Vec<u8>,
     refusal: Refusal,
-    line: u64,
+    place: u64,
 ) -> Result<(), NoMemory>
-    ensures { OnOk result (out.new.items ≡ out.old.items ++ event_refusal_text refusal line) }
+    ensures { OnOk result (out.new.items ≡ out.old.items ++ event_refusal_text refusal place) }
 {
     let text = format!(in alloc; "{refusal}")?;
     push(out, text.as_bytes())?;
     if has_number(refusal) {
         return Ok(());
     }
-    push_numbered(out, b" ", line)
-}
-
-// A text and a number.
-fn push_numbered(out: &mut Vec<u8>, text: &[u8], number: u64) -> Result<(), NoMemory>
-    ensures { OnOk result (out.new.items ≡ out.old.items ++ text.now ++ decimal number) }
-{
-    push(out, text)?;
-    push_unsigned(out, number)
+    push_numbered(out, b" ", place)
 }
 
 fn push_key_refusal(alloc: Global, out: &mut Vec<u8>, refusal: KeyRefusal) -> Result<(), NoMemory>
     ensures { OnOk result (out.new.items ≡ out.old.items ++ key_refusal_text refusal) }
 {
     match refusal {
-        KeyRefusal::Event { refusal, line } => push_event_refusal(alloc, out, refusal, line),
-        KeyRefusal::Range(line) => push_numbered(out, b"Range ", line),
-        KeyRefusal::TwoSeries(line) => push_numbered(out, b"TwoSeries ", line),
-        KeyRefusal::TwoInstances(line) => push_numbered(out, b"TwoInstances ", line),
-        KeyRefusal::ExcludedRule(line) => push_numbered(out, b"ExcludedRule ", line),
+        KeyRefusal::Event { refusal, place } => push_event_refusal(alloc, out, refusal, place),
+        KeyRefusal::Range(place) => push_numbered(out, b"Range ", place),
+        KeyRefusal::TwoSeries(place) => push_numbered(out, b"TwoSeries ", place),
+        KeyRefusal::TwoInstances(place) => push_numbered(out, b"TwoInstances ", place),
+        KeyRefusal::ExcludedRule(place) => push_numbered(out, b"ExcludedRule ", place),
+        KeyRefusal::NoType(place) => push_numbered(out, b"NoType ", place),
+        KeyRefusal::NotExpanded(place) => push_numbered(out, b"NotExpanded ", place),
+        KeyRefusal::NoMaster(place) => push_numbered(out, b"NoMaster ", place),
+        KeyRefusal::BadInstance(place) => push_numbered(out, b"BadInstance ", place),
     }
 }
 
@@ -189,6 +190,24 @@ pub fn push_said(alloc: Global, out: &mut Vec<u8>, name: &[u8], said: Said) -> R
             let zone: &[u8] = if one_zone { b"" } else { b" zone" };
             push(out, zone)
         }
+    }
+}
+
+/// Appends the line that says how many occurrences exactly one of both has beside the first, and which is the last of them.
+pub fn push_further(out: &mut Vec<u8>, further: Further) -> Result<(), NoMemory>
+    requires { IsPrintableFurther further }
+    ensures { OnOk result (out.new.items ≡ out.old.items ++ further_text further) }
+{
+    match further {
+        Further::NoMore => push(out, b"more 0\n"),
+        Further::Until { count, last } => {
+            push_numbered(out, b"more ", count as u64)?;
+            push(out, b" until ")?;
+            push_extended(out, last.kind, last.at)?;
+            push(out, b"\n")
+        }
+        Further::Many => push(out, b"more 9999 at least\n"),
+        Further::ForEver => push(out, b"more for ever\n"),
     }
 }
 
@@ -273,6 +292,9 @@ pub fn print_refusal(alloc: Global, side: Side, refusal: FileRefusal) -> Result<
         FileRefusal::TooLong => push(&mut out, b" TooLong")?,
         FileRefusal::NoEvents => push(&mut out, b" NoEvents")?,
         FileRefusal::BadLine(line) => push_numbered(&mut out, b" BadLine ", line)?,
+        FileRefusal::BadJson => push(&mut out, b" BadJson")?,
+        FileRefusal::MorePages => push(&mut out, b" MorePages")?,
+        FileRefusal::BadEvent(event) => push_numbered(&mut out, b" BadEvent ", event)?,
     }
     push(&mut out, b"\n")?;
     Ok(out)

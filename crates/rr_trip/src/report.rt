@@ -2,10 +2,9 @@
 ghost use Rattle.std.specs.Prelude.{◌≡◌};
 ghost use Rattle.rr_trip.specs.Counts.{count_said, counts_of, differs, has_other_zone, is_counted, is_equal, is_in_utc, is_only, is_refused, status_of};
 
-use crate::gather::KeyRefusal;
-use crate::key::Key;
 use crate::said::Said;
 use rr_model::{Refusal, Side, Verdict};
+use rr_seam::{Key, KeyRefusal};
 
 /// What is said of one key.
 #[derive(Drop)]

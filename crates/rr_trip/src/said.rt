@@ -1,19 +1,17 @@
 // What is said of a key.
-ghost use Rattle.std.specs.Prelude.{◌≡◌, ◌++◌, All, IfOk, bytes_eq};
+ghost use Rattle.std.specs.Prelude.{◌≡◌, ◌++◌, IfOk, bytes_eq};
 ghost use Rattle.std.specs.List.{list_all};
 ghost use Rattle.rr_model.specs.Series.Validity.{IsValidSeries};
 ghost use Rattle.rr_days.specs.Sequence.{sketch};
-ghost use Rattle.rr_trip.specs.Entries.{IsNumbered, events_in};
 ghost use Rattle.rr_trip.specs.Judged.{IsFoldOf};
-ghost use Rattle.rr_trip.specs.Said.{IsCompared, IsFaultSaid, IsPrintableSaid, IsSaid, IsSaidBeside, IsSaidWith, have_one_zone};
+ghost use Rattle.rr_trip.specs.Report.{stated_in};
+ghost use Rattle.rr_trip.specs.Said.{IsCompared, IsFaultSaid, IsPrintableSaid, IsSaid, IsSaidBeside, IsSaidOfBoth, IsSaidWith, have_one_zone};
 
-use crate::entry::Entry;
-use crate::gather::{KeyFault, KeyRefusal};
-use crate::judge::{KeyDays, KeySeries, days_of_key, key_days, key_series};
+use crate::judge::{KeyDays, days_of_key, key_days};
 use crate::same::is_same_series;
-use rr_days::Folded;
 use rr_decide::equal;
 use rr_model::{Bytes, NoMemory, Side, Verdict};
+use rr_seam::{EventFile, KeyFault, KeyRefusal, KeySeries};
 use std::alloc::Global;
 
 /// What is said of a key.
@@ -30,9 +28,9 @@ pub enum Said {
     },
     /// Both are compared, for all years to come.
     Compared {
-        /// Whether they have equal occurrences, else the first that one of them alone has.
+        /// Whether they have equal occurrences, otherwise the first that one of them alone has.
         verdict: Verdict,
-        /// Whether the zones of the key's events are all the same: UTC, or TZID parameters.
+        /// Whether the names of the zones of the key's events are all the same.
         one_zone: bool,
     },
 }
@@ -74,7 +72,7 @@ fn refusal_on(side: Side, fault: KeyFault) -> Result<Said, NoMemory>
 // The verdict on both calendars.
 fn verdict_on(a: &KeyDays, b: &KeyDays) -> Said
     ensures { IsCompared (sketch a.now.days) (sketch b.now.days)
-        (have_one_zone (a.now.zones ++ b.now.zones)) result }
+        (have_one_zone (a.now.zones.items ++ b.now.zones.items)) result }
 {
     Said::Compared {
         verdict: equal(&a.days, &b.days),
@@ -86,8 +84,8 @@ fn verdict_on(a: &KeyDays, b: &KeyDays) -> Said
 fn said_by_days(alloc: Global, a: &KeyDays, b: KeySeries) -> Result<Said, NoMemory>
     requires folded { IsFoldOf a.now.series (sketch a.now.days) }
     requires valid { IsValidSeries b.series }
-    ensures said { IfOk result (IsSaidBeside a.now.series b.line b.series
-        (have_one_zone (a.now.zones ++ b.zones))) }
+    ensures said { IfOk result (IsSaidBeside a.now.series b.place b.series
+        (have_one_zone (a.now.zones.items ++ b.zones.items))) }
     ensures printable { IfOk result IsPrintableSaid }
 {
     match days_of_key(alloc, b) {
@@ -100,8 +98,8 @@ fn said_by_days(alloc: Global, a: &KeyDays, b: KeySeries) -> Result<Said, NoMemo
 fn said_beside(alloc: Global, a: &KeyDays, b: KeySeries) -> Result<Said, NoMemory>
     requires folded { IsFoldOf a.now.series (sketch a.now.days) }
     requires valid { IsValidSeries b.series }
-    ensures said { IfOk result (IsSaidBeside a.now.series b.line b.series
-        (have_one_zone (a.now.zones ++ b.zones))) }
+    ensures said { IfOk result (IsSaidBeside a.now.series b.place b.series
+        (have_one_zone (a.now.zones.items ++ b.zones.items))) }
     ensures printable { IfOk result IsPrintableSaid }
 {
     if is_same_series(a.series.series(), &b.series) {
@@ -113,30 +111,52 @@ fn said_beside(alloc: Global, a: &KeyDays, b: KeySeries) -> Result<Said, NoMemor
     said_by_days(alloc, a, b)
 }
 
-// What is said of a key with these events in B, beside the days of A.
-fn said_with(alloc: Global, offset: Option<i32>, a: &KeyDays, b: &[Entry]) -> Result<Said, NoMemory>
-    requires folded { IsFoldOf a.now.series (sketch a.now.days) }
-    requires b { All IsNumbered b.now }
-    ensures said { IfOk result (IsSaidWith offset a.now.series a.now.zones (events_in b.now)) }
+// What is said of a key with the events of these indexes in B, beside the days of A.
+fn said_with<F: EventFile>(
+    alloc: Global,
+    a: &KeyDays,
+    file: &F,
+    b: &[usize],
+) -> Result<Said, NoMemory>
+    requires { IsFoldOf a.now.series (sketch a.now.days) }
+    ensures said { IfOk result (IsSaidWith a.now.series a.now.zones.items
+        (F.stated file.now b.now)) }
     ensures printable { IfOk result IsPrintableSaid }
 {
-    match key_series(alloc, offset, b) {
+    match file.key_series(alloc, b) {
         Ok(b) => said_beside(alloc, a, b),
         Err(fault) => refusal_on(Side::B, fault),
     }
 }
 
-/// What is said of a key with these events in A and in B: that one calendar alone has some, else the refusal of A, else that
-/// of B, else the verdict. B is not read where A is refused.
-pub fn said_of(
+// What is said of a key that has events in both calendars.
+fn said_of_both<A: EventFile, B: EventFile>(
     alloc: Global,
-    offset: Option<i32>,
-    a: &[Entry],
-    b: &[Entry],
+    old: &A,
+    a: &[usize],
+    new: &B,
+    b: &[usize],
 ) -> Result<Said, NoMemory>
-    requires a { All IsNumbered a.now }
-    requires b { All IsNumbered b.now }
-    ensures said { IfOk result (IsSaid offset (events_in a.now) (events_in b.now)) }
+    ensures said { IfOk result (IsSaidOfBoth (A.stated old.now a.now) (B.stated new.now b.now)) }
+    ensures printable { IfOk result IsPrintableSaid }
+{
+    match key_days(alloc, old, a) {
+        Ok(days) => said_with(alloc, &days, new, b),
+        Err(fault) => refusal_on(Side::A, fault),
+    }
+}
+
+/// What is said of a key with the events of these indexes in A and in B: that one calendar alone has some, otherwise the refusal
+/// of A, otherwise that of B, otherwise the verdict. If A is refused B is not read.
+pub fn said_of<A: EventFile, B: EventFile>(
+    alloc: Global,
+    old: &A,
+    a: &[usize],
+    new: &B,
+    b: &[usize],
+) -> Result<Said, NoMemory>
+    ensures said { IfOk result (IsSaid (stated_in (A.stated old.now) a.now)
+        (stated_in (B.stated new.now) b.now)) }
     ensures printable { IfOk result IsPrintableSaid }
 {
     if b.is_empty() {
@@ -145,8 +165,5 @@ pub fn said_of(
     if a.is_empty() {
         return Ok(Said::Only(Side::B));
     }
-    match key_days(alloc, offset, a) {
-        Ok(days) => said_with(alloc, offset, &days, b),
-        Err(fault) => refusal_on(Side::A, fault),
-    }
+    said_of_both(alloc, old, a, new, b)
 }

@@ -1,23 +1,20 @@
-// What is said of the events that are printed by one name, with a picture of where they differ.
-ghost use Rattle.std.specs.Prelude.{◌≡◌, ◌++◌, All, IfOk, OnOk, bytes_eq, map};
-ghost use Rattle.std.specs.List.{filter};
-ghost use Rattle.rr_events.specs.Finding.{lines_in};
-ghost use Rattle.rr_trip.specs.Entries.{IsNumbered, IsNumberedPiece, entry_of, events_in};
-ghost use Rattle.rr_trip.specs.Printed.{key_text};
+// What is said of the events that are printed by one name, and where they differ.
+ghost use Rattle.std.specs.Prelude.{◌≡◌, ◌++◌, IfOk, OnOk, bytes_eq};
 ghost use Rattle.rr_days.specs.Sequence.{sketch};
-ghost use Rattle.rr_trip.specs.Shown.{AnswersShow, IsPictureBeside, IsPictureFor, IsPictureFrom, IsShownOf, IsUnpainted, IsShownSaid, IsUnknown, are_none, events_named, is_entry_named, named_part, said_status};
+ghost use Rattle.rr_trip.specs.Judged.{IsFoldOf};
+ghost use Rattle.rr_seam.specs.Stated.{calendar_by};
+ghost use Rattle.rr_trip.specs.Printed.{key_text};
+ghost use Rattle.rr_trip.specs.Report.{indexes_from};
+ghost use Rattle.rr_trip.specs.Shown.{IsPictureBeside, IsPictureFor, IsPictureFrom, IsShownIn, IsShownOf, IsShownSaid, IsTold, IsUnknown, IsUnpainted, are_none, is_key_named, named_part, said_status};
 
-use crate::entry::Entry;
-use crate::file::{TripFault, read_file};
-use crate::gather::KeyFault;
 use crate::grid::picture;
 use crate::judge::{KeyDays, key_days};
-use crate::key::{Key, key_of};
-use crate::printing::{push, push_asked, push_key, push_said};
+use crate::printing::{push, push_asked, push_further, push_key, push_said};
 use crate::report::Status;
 use crate::said::{Said, said_of};
-use rr_events::Piece;
+use rr_differ::further_differences;
 use rr_model::{NoMemory, Side, Verdict, day_part};
+use rr_seam::{EventFile, Key, KeyFault};
 use std::alloc::Global;
 
 /// What is said of the events of one name.
@@ -27,7 +24,7 @@ pub struct Shown {
     pub status: Status,
     /// What is printed.
     pub text: Vec<u8>,
-    /// What is said, where a calendar has such an event.
+    /// What is said, if a calendar has such an event.
     pub said: Option<Said>,
 }
 
@@ -40,45 +37,37 @@ fn is_named(alloc: Global, key: &Key, name: &[u8]) -> Result<bool, NoMemory>
     Ok(text.as_slice() == name)
 }
 
-// Puts an event whose key is printed so.
-fn put_named<'a>(
+// Puts the index of an event if its key is printed so.
+fn put_named(
     alloc: Global,
-    entries: &mut Vec<Entry<'a>>,
-    entry: Entry<'a>,
+    indexes: &mut Vec<usize>,
+    key: &Key,
+    index: usize,
     name: &[u8],
 ) -> Result<(), NoMemory>
-    ensures { OnOk result (entries.new.items
-        ≡ entries.old.items ++ named_part name.now entry.entry) }
+    ensures { OnOk result (indexes.new.items
+        ≡ indexes.old.items ++ named_part name.now key.now index) }
 {
-    if !is_named(alloc, &entry.key, name)? {
-        return Ok(());
+    if is_named(alloc, key, name)? {
+        indexes.push(index)?;
     }
-    entries.push(entry)?;
     Ok(())
 }
 
-// The events of one calendar whose key is printed so.
-fn entries_named<'a>(
-    alloc: Global,
-    side: Side,
-    pieces: &[Piece<'a>],
-    name: &[u8],
-) -> Result<Vec<Entry<'a>>, NoMemory>
-    requires { All IsNumberedPiece pieces.now }
-    ensures named { IfOk result (λ entries. entries.items
-        ≡ filter (is_entry_named name.now) (map (entry_of side) pieces.now)) }
-    ensures numbered { IfOk result (λ entries. All IsNumbered entries.items) }
+// The indexes of the events of one calendar whose key is printed so.
+fn indexes_named<F: EventFile>(alloc: Global, file: &F, name: &[u8]) -> Result<Vec<usize>, NoMemory>
+    ensures { IfOk result (λ indexes. indexes.items
+        ≡ indexes_from (is_key_named name.now) 0 (F.keys file.now)) }
 {
-    let mut entries = Vec::new(alloc);
-    for piece in pieces {
-        let piece = *piece;
-        let key = key_of(alloc, piece)?;
-        put_named(alloc, &mut entries, Entry { key, side, piece }, name)?;
+    let mut indexes = Vec::new(alloc);
+    for index in 0..file.count() {
+        let key = file.key_at(alloc, index)?;
+        put_named(alloc, &mut indexes, &key, index, name)?;
     }
-    Ok(entries)
+    Ok(indexes)
 }
 
-// How it ends where this is said of one key.
+// How it ends if this is said of one key.
 fn said_status(said: Said) -> Status
     ensures { result ≡ said_status said }
 {
@@ -102,61 +91,73 @@ fn no_picture(alloc: Global, fault: KeyFault) -> Result<Vec<u8>, NoMemory>
     }
 }
 
-// The picture of the months from a day on, beside the days of A; none where the events of B are refused.
-fn picture_beside(
+// How many occurrences exactly one has beside the first, and the picture of the months from a day on.
+fn told(alloc: Global, a: &KeyDays, b: &KeyDays, day: i64) -> Result<Vec<u8>, NoMemory>
+    requires a { IsFoldOf a.now.series (sketch a.now.days) }
+    requires b { IsFoldOf b.now.series (sketch b.now.days) }
+    ensures { IfOk result (λ text. IsTold (sketch a.now.days) (sketch b.now.days) day text.items) }
+{
+    let further = further_differences(alloc, &a.days, &b.days)?;
+    let mut text = Vec::new(alloc);
+    push_further(&mut text, further)?;
+    let months = picture(alloc, &a.days, &b.days, day)?;
+    push(&mut text, &months)?;
+    Ok(text)
+}
+
+// What is told of the days of A and of B from a day on; nothing if the events of B are refused.
+fn picture_beside<F: EventFile>(
     alloc: Global,
-    offset: Option<i32>,
     a: &KeyDays,
-    b: &[Entry],
+    file: &F,
+    b: &[usize],
     day: i64,
 ) -> Result<Vec<u8>, NoMemory>
-    requires { All IsNumbered b.now }
-    ensures { IfOk result (λ text. IsPictureBeside offset (sketch a.now.days) (events_in b.now) day
-        text.items) }
+    requires { IsFoldOf a.now.series (sketch a.now.days) }
+    ensures { IfOk result (λ text. IsPictureBeside (sketch a.now.days) (F.stated file.now b.now)
+        day text.items) }
 {
-    match key_days(alloc, offset, b) {
-        Ok(b) => picture(alloc, &a.days, &b.days, day),
+    match key_days(alloc, file, b) {
+        Ok(b) => told(alloc, a, &b, day),
         Err(fault) => no_picture(alloc, fault),
     }
 }
 
-// The picture of the months from a day on; none where the events of either are refused.
-fn picture_from(
+// The picture of the months from a day on; none if the events of either are refused.
+fn picture_from<A: EventFile, B: EventFile>(
     alloc: Global,
-    offset: Option<i32>,
-    a: &[Entry],
-    b: &[Entry],
+    old: &A,
+    a: &[usize],
+    new: &B,
+    b: &[usize],
     day: i64,
 ) -> Result<Vec<u8>, NoMemory>
-    requires a { All IsNumbered a.now }
-    requires b { All IsNumbered b.now }
-    ensures { IfOk result (λ text. IsPictureFrom offset (events_in a.now) (events_in b.now) day
-        text.items) }
+    ensures { IfOk result (λ text. IsPictureFrom (A.stated old.now a.now) (B.stated new.now b.now)
+        day text.items) }
 {
-    match key_days(alloc, offset, a) {
-        Ok(a) => picture_beside(alloc, offset, &a, b, day),
+    match key_days(alloc, old, a) {
+        Ok(a) => picture_beside(alloc, &a, new, b, day),
         Err(fault) => no_picture(alloc, fault),
     }
 }
 
 // The picture of where the events of a key differ, or nothing.
-fn picture_of(
+fn picture_of<A: EventFile, B: EventFile>(
     alloc: Global,
-    offset: Option<i32>,
     said: Said,
-    a: &[Entry],
-    b: &[Entry],
+    old: &A,
+    a: &[usize],
+    new: &B,
+    b: &[usize],
 ) -> Result<Vec<u8>, NoMemory>
-    requires a { All IsNumbered a.now }
-    requires b { All IsNumbered b.now }
-    ensures { IfOk result (λ text. IsPictureFor offset (events_in a.now) (events_in b.now) said
-        text.items) }
+    ensures { IfOk result (λ text. IsPictureFor (A.stated old.now a.now) (B.stated new.now b.now)
+        said text.items) }
 {
     match said {
         Said::Compared {
             verdict: Verdict::No { kind, at, .. },
             ..
-        } => picture_from(alloc, offset, a, b, day_part(kind, at)),
+        } => picture_from(alloc, old, a, new, b, day_part(kind, at)),
         _ => Ok(Vec::new(alloc)),
     }
 }
@@ -177,22 +178,21 @@ fn unknown_name(alloc: Global, name: &[u8]) -> Result<Shown, NoMemory>
 }
 
 // What is said of the events of a key that is printed so, of which a calendar has one.
-fn show_key(
+fn show_key<A: EventFile, B: EventFile>(
     alloc: Global,
-    offset: Option<i32>,
-    a: &[Entry],
-    b: &[Entry],
+    old: &A,
+    a: &[usize],
+    new: &B,
+    b: &[usize],
     name: &[u8],
 ) -> Result<Shown, NoMemory>
-    requires a { All IsNumbered a.now }
-    requires b { All IsNumbered b.now }
-    ensures { IfOk result (IsShownSaid offset (events_in a.now) (events_in b.now) name.now) }
+    ensures { IfOk result (IsShownSaid (A.stated old.now) a.now (B.stated new.now) b.now name.now) }
 {
-    let said = said_of(alloc, offset, a, b)?;
+    let said = said_of(alloc, old, a, new, b)?;
     let mut text = Vec::new(alloc);
     push_said(alloc, &mut text, name, said)?;
     push(&mut text, b"\n")?;
-    let picture = picture_of(alloc, offset, said, a, b)?;
+    let picture = picture_of(alloc, said, old, a, new, b)?;
     push(&mut text, &picture)?;
     Ok(Shown {
         status: said_status(said),
@@ -202,7 +202,7 @@ fn show_key(
 }
 
 // Whether there are no events in A and none in B.
-fn are_none(a: &[Entry], b: &[Entry]) -> bool
+fn are_none(a: &[usize], b: &[usize]) -> bool
     ensures { result ≡ are_none a.now b.now }
 {
     match (a, b) {
@@ -212,56 +212,34 @@ fn are_none(a: &[Entry], b: &[Entry]) -> bool
 }
 
 // What is said of the events of a key that is printed so.
-fn shown_of(
+fn shown_of<A: EventFile, B: EventFile>(
     alloc: Global,
-    offset: Option<i32>,
-    a: &[Entry],
-    b: &[Entry],
+    old: &A,
+    a: &[usize],
+    new: &B,
+    b: &[usize],
     name: &[u8],
 ) -> Result<Shown, NoMemory>
-    requires a { All IsNumbered a.now }
-    requires b { All IsNumbered b.now }
-    ensures { IfOk result (IsShownOf offset (events_in a.now) (events_in b.now) name.now) }
+    ensures { IfOk result (IsShownOf (A.stated old.now) a.now (B.stated new.now) b.now name.now) }
 {
     if are_none(a, b) {
         return unknown_name(alloc, name);
     }
-    show_key(alloc, offset, a, b, name)
+    show_key(alloc, old, a, new, b, name)
 }
 
-// The same of the events of two calendars, among which those of the name are looked for.
-fn show_named(
+/// What is said of the events of two calendars whose key is printed by this name, as in a report; and, if they differ, a picture
+/// of the month of the first counterexample and the two after it. If no event has the name, that, with the name as it is printed.
+pub fn show<A: EventFile, B: EventFile>(
     alloc: Global,
-    offset: Option<i32>,
-    a: &[Piece],
-    b: &[Piece],
+    a: &A,
+    b: &B,
     name: &[u8],
 ) -> Result<Shown, NoMemory>
-    requires a { All IsNumberedPiece a.now }
-    requires b { All IsNumberedPiece b.now }
-    ensures { IfOk result (IsShownOf offset (events_named name.now (map lines_in a.now))
-        (events_named name.now (map lines_in b.now)) name.now) }
+    ensures { IfOk result (IsShownIn (calendar_by (A.keys a.now) (A.stated a.now))
+        (calendar_by (B.keys b.now) (B.stated b.now)) name.now) }
 {
-    let of_a = entries_named(alloc, Side::A, a, name)?;
-    let of_b = entries_named(alloc, Side::B, b, name)?;
-    shown_of(alloc, offset, &of_a, &of_b, name)
-}
-
-/// What is said of the events of two calendar files whose key is printed by this name, as in a report; and, where they
-/// differ, a picture of the month of the first counterexample and the two after it. Where no event has the name, that, with the
-/// name as it is printed.
-///
-/// A file is refused as a whole as in `compare`, which says of the offset.
-pub fn show(
-    alloc: Global,
-    offset: Option<i32>,
-    old: &[u8],
-    new: &[u8],
-    name: &[u8],
-) -> Result<Shown, TripFault>
-    ensures { AnswersShow offset old.now new.now name.now result }
-{
-    let a = read_file(alloc, Side::A, old)?;
-    let b = read_file(alloc, Side::B, new)?;
-    Ok(show_named(alloc, offset, &a, &b, name)?)
+    let of_a = indexes_named(alloc, a, name)?;
+    let of_b = indexes_named(alloc, b, name)?;
+    shown_of(alloc, a, &of_a, b, &of_b, name)
 }

@@ -1,20 +1,25 @@
 use Rattle.std.proofs.Common.{◌+◌, length, drop, sym, subst, ◌∙◌, arith}
 use Rattle.std.proofs.lemmas.List.{length-drop}
+use Rattle.rr_seam.specs.Stated.{calendar_by}
 use Rattle.rr_trip.specs.Report.{IsRunAt}
-use Rattle.rr_trip.proofs.ReportLemmas.{IsUpTo, IsUpTo-end, IsUpTo-next, IsUpTo-start, run_length, run_numbered, whole_rest}
+use Rattle.rr_trip.proofs.ReportLemmas.{IsUpTo, IsUpTo-end, IsUpTo-next, IsUpTo-start, run_length, whole_rest}
 use Rattle.rr_trip.proofs.comparison.lines_of.Goals as goal
 
 pub loop-run-init : goal.loop-run-init
-loop-run-init g c = IsUpTo-start c.args.offset c.args.entries.now _ c.new-lines.ensures.items
+loop-run-init g c =
+    IsUpTo-start (calendar_by (g.A.EventFile.keys c.args.a.now) (g.A.EventFile.stated c.args.a.now))
+    (calendar_by (g.B.EventFile.keys c.args.b.now) (g.B.EventFile.stated c.args.b.now)) c.args.entries.now _ c.new-lines.ensures.items
 
 pub loop-run-preserved : goal.loop-run-preserved
 loop-run-preserved g c =
+    let a = calendar_by (g.A.EventFile.keys c.args.a.now) (g.A.EventFile.stated c.args.a.now) in
+    let b = calendar_by (g.B.EventFile.keys c.args.b.now) (g.B.EventFile.stated c.args.b.now) in
     let entries = c.args.entries.now in
     let start = c.loop-run.start in
     let run = c.in-Some.run'.entries.now in
     let at = subst (λ es. IsRunAt es c.in-Some.run'.first.now run) (whole_rest start entries) c.in-Some.ensures in
-    subst (λ ls. IsUpTo c.args.offset entries ls (start + length run)) (sym c.in_ok-push.ensures.items)
-    (IsUpTo-next c.args.offset entries c.loop-run.lines.items start c.in-Some.run'.first.now run c.in_ok-line_of.field-0 at c.in_ok-line_of.ensures
+    subst (λ ls. IsUpTo a b entries ls (start + length run)) (sym c.in_ok-push.ensures.items)
+    (IsUpTo-next a b entries c.loop-run.lines.items start c.in-Some.run'.first.now run c.in_ok-line_of.field-0 at c.in_ok-line_of.ensures
     c.loop-run.invariant)
 
 pub loop-run-smaller : goal.loop-run-smaller
@@ -25,17 +30,10 @@ loop-run-smaller g c =
     let at = subst (λ es. IsRunAt es c.in-Some.run'.first.now run) (whole_rest start entries) c.in-Some.ensures in
     omega (arith, run_length (drop start entries) c.in-Some.run'.first.now run at, length-drop start entries, c.loop-run.invariant.within)
 
-pub line_of-requires : goal.line_of-requires
-line_of-requires g c =
-    let entries = c.args.entries.now in
-    let start = c.loop-run.start in
-    let run = c.in-Some.run'.entries.now in
-    let at = subst (λ es. IsRunAt es c.in-Some.run'.first.now run) (whole_rest start entries) c.in-Some.ensures in
-    run_numbered entries start c.in-Some.run'.first.now run at c.requires
-
 pub returns : goal.returns
 returns g c =
     let entries = c.args.entries.now in
     let start = c.loop-run.start in
-    IsUpTo-end c.args.offset entries c.loop-run.lines.items start c.loop-run.invariant
+    IsUpTo-end (calendar_by (g.A.EventFile.keys c.args.a.now) (g.A.EventFile.stated c.args.a.now))
+    (calendar_by (g.B.EventFile.keys c.args.b.now) (g.B.EventFile.stated c.args.b.now)) entries c.loop-run.lines.items start c.loop-run.invariant
     (sym (whole_rest start entries) ∙ (rw c.in_default.is at c.first_run.ensures))

@@ -1,24 +1,14 @@
-use Rattle.std.proofs.Common.{map}
-use Rattle.std.proofs.lemmas.Result.{err_from_is_err_and}
-use Rattle.rr_events.specs.Finding.{lines_in}
-use Rattle.rr_trip.proofs.FaultLemmas.{refused_a, refused_b}
+use Rattle.std.proofs.Common.{rules}
+use Rattle.rr_seam.specs.Stated.{calendar_by}
+use Rattle.rr_trip.specs.Entries.{IsSortedOf, entries_of}
+use Rattle.rr_trip.specs.Report.{AreLinesOf}
+use Rattle.rr_trip.proofs.ReportLemmas.{is_report}
 use Rattle.rr_trip.proofs.comparison.report_of.Goals as goal
 
 pub returns : goal.returns
-returns g c = record {
-  a = map lines_in c.in_ok-a.a.items;
-  b = map lines_in c.in_ok-b.b.items;
-  first = c.in_ok-a.ensures.answers;
-  second = c.in_ok-b.ensures.answers;
-  report = rw (c.deref.ensures.value, c.deref-2.ensures.value) at c.in_ok-report_of_events.ensures;
-}
-
-pub returns-in_err-a : goal.returns-in_err-a
-returns-in_err-a g c =
-    let p = err_from_is_err_and c.from_residual.result c.from_residual.ensures.1 in
-    rw (p.1, p.2) (refused_a c.args.offset c.args.old.now c.args.new.now c.in_err-a.field-0.0 c.in_err-a.ensures.answers)
-
-pub returns-in_err-b : goal.returns-in_err-b
-returns-in_err-b g c =
-    let p = err_from_is_err_and c.from_residual-in_err-b.result c.from_residual-in_err-b.ensures.1 in
-    rw (p.1, p.2) (refused_b c.args.offset c.args.old.now c.args.new.now c.in_err-b.field-0.0 _ c.in_ok-a.ensures.answers c.in_err-b.ensures.answers)
+returns g c =
+    let a = calendar_by (g.A.EventFile.keys c.args.a.now) (g.A.EventFile.stated c.args.a.now) in
+    let b = calendar_by (g.B.EventFile.keys c.args.b.now) (g.B.EventFile.stated c.args.b.now) in
+    let sorted : IsSortedOf (entries_of a.keys b.keys) c.in_ok-entries.entries.items = search rules in
+    let lined : AreLinesOf a b c.in_ok-entries.entries.items c.in_ok-lines_of.field-0.items = search rules in
+    is_report a b c.in_ok-entries.entries.items c.in_ok-lines_of.field-0.items sorted lined

@@ -6,4 +6,4 @@ pub returns-in-Ok-clause-accepted : goal.returns-in-Ok-clause-accepted
 returns-in-Ok-clause-accepted c = (c.in-Ok.ensures.accepted.0, refl, c.in-Ok.ensures.accepted.1)
 
 pub returns-in-Err-clause-refused : goal.returns-in-Err-clause-refused
-returns-in-Err-clause-refused c = rw c.at_event.ensures (fault_by c.args.key.line c.args.key.series c.in-Err.fault c.in-Err.ensures.refused)
+returns-in-Err-clause-refused c = rw c.at_event.ensures (fault_by c.args.key.place c.args.key.series c.in-Err.fault c.in-Err.ensures.refused)

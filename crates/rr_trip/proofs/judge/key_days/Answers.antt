@@ -1,21 +1,24 @@
-use Rattle.std.proofs.Common.{Ok, ap, sym, ◌∙◌}
+use Rattle.std.proofs.Common.{Ok, Vec, Global, ap, sym, ◌∙◌}
 use Rattle.std.proofs.lemmas.Result.{IfErr-weaker, IfOk-weaker}
-use Rattle.rr_trip.specs.Entries.{events_in}
-use Rattle.rr_trip.proofs.JudgeLemmas.{fault_stated}
+use Rattle.rr_trip.proofs.JudgeLemmas.{fault_stated, not_stated}
 use Rattle.rr_trip.proofs.judge.key_days.Goals as goal
 
 pub returns-in-Ok-clause-states : goal.returns-in-Ok-clause-states
-returns-in-Ok-clause-states c =
-    IfOk-weaker c.days_of_key.result _ _ (λ made h. c.in-Ok.ensures.accepted.states ∙ ap Ok (sym h.0)) c.days_of_key.ensures.accepted
+returns-in-Ok-clause-states g c =
+    IfOk-weaker c.days_of_key.result _ _ (λ made h. c.in-Ok.ensures.states ∙ ap Ok (sym h.0)) c.days_of_key.ensures.accepted
 
 pub returns-in-Ok-clause-folded : goal.returns-in-Ok-clause-folded
-returns-in-Ok-clause-folded c = IfOk-weaker c.days_of_key.result _ _ (λ made h. h.2) c.days_of_key.ensures.accepted
+returns-in-Ok-clause-folded g c = IfOk-weaker c.days_of_key.result _ _ (λ made h. h.2) c.days_of_key.ensures.accepted
 
 pub returns-in-Ok-clause-zones : goal.returns-in-Ok-clause-zones
-returns-in-Ok-clause-zones c = IfOk-weaker c.days_of_key.result _ _ (λ made h. h.1 ∙ c.in-Ok.ensures.zones) c.days_of_key.ensures.accepted
+returns-in-Ok-clause-zones g c =
+    IfOk-weaker c.days_of_key.result _ _ (λ made h. ap (λ zs. zs.items) h.1 ∙ c.in-Ok.ensures.zones) c.days_of_key.ensures.accepted
 
 pub returns-in-Ok-clause-refused : goal.returns-in-Ok-clause-refused
-returns-in-Ok-clause-refused c =
+returns-in-Ok-clause-refused g c =
     IfErr-weaker c.days_of_key.result _ _
-    (λ f h. fault_stated c.args.offset (events_in c.args.entries.now) c.in-Ok.key.line c.in-Ok.key.series c.in-Ok.ensures.accepted f h)
+    (λ f h. fault_stated (g.F.EventFile.stated c.args.file.now c.args.indexes.now) c.in-Ok.key c.in-Ok.ensures f h)
     c.days_of_key.ensures.refused
+
+pub returns-in-Err-clause-refused : goal.returns-in-Err-clause-refused
+returns-in-Err-clause-refused g c = not_stated (g.F.EventFile.stated c.args.file.now c.args.indexes.now) c.in-Err.fault c.in-Err.ensures

@@ -1,4 +1,4 @@
-use Rattle.std.proofs.Common.{◌++◌, List, ℕ, subst}
+use Rattle.std.proofs.Common.{◌++◌, List, ℕ, ap, subst}
 use Rattle.std.proofs.lemmas.Result.{IfOk-weaker}
 use Rattle.rr_days.specs.Sequence.{sketch}
 use Rattle.rr_model.specs.declared.rule.Series.{Series}
@@ -14,9 +14,9 @@ returns-in-Ok-clause-said c =
     let a = c.args.a.now in
     let b = c.in-Ok.b in
     compared a.series c.args.b.series (sketch a.days) (sketch b.days) c.requires.folded
-    (subst (λ (s : Series). IsFoldOf s (sketch b.days)) h.0 h.2) c.args.b.line (have_one_zone (a.zones ++ c.args.b.zones)) c.verdict_on.result
-    (subst (λ (zs : List (List ℕ)). IsCompared (sketch a.days) (sketch b.days) (have_one_zone (a.zones ++ zs)) c.verdict_on.result) h.1
-    c.verdict_on.ensures)
+    (subst (λ (s : Series). IsFoldOf s (sketch b.days)) h.0 h.2) c.args.b.place (have_one_zone (a.zones.items ++ c.args.b.zones.items)) c.verdict_on.result
+    (subst (λ (zs : List (List ℕ)). IsCompared (sketch a.days) (sketch b.days) (have_one_zone (a.zones.items ++ zs)) c.verdict_on.result)
+    (ap (λ zs. zs.items) h.1) c.verdict_on.ensures)
 
 pub returns-in-Ok-clause-printable : goal.returns-in-Ok-clause-printable
 returns-in-Ok-clause-printable c =
@@ -26,7 +26,7 @@ returns-in-Ok-clause-printable c =
 pub returns-in-Err-clause-said : goal.returns-in-Err-clause-said
 returns-in-Err-clause-said c =
     IfOk-weaker c.refusal_on.result _ _
-    (λ x e. refused_beside c.args.a.now.series c.args.b.line c.args.b.series (have_one_zone (c.args.a.now.zones ++ c.args.b.zones)) c.in-Err.fault x
+    (λ x e. refused_beside c.args.a.now.series c.args.b.place c.args.b.series (have_one_zone (c.args.a.now.zones.items ++ c.args.b.zones.items)) c.in-Err.fault x
     c.in-Err.ensures.refused e)
     c.refusal_on.ensures
 

@@ -2,7 +2,7 @@ use Rattle.std.proofs.Common.{rules, refl}
 use Rattle.rr_trip.proofs.shown.show_key.Goals as goal
 
 pub returns : goal.returns
-returns c = record {
+returns g c = record {
   said = c.in_ok-said.said;
   more = c.in_ok-picture.picture.items;
   is_said = c.in_ok-said.ensures.said;

@@ -1,6 +1,0 @@
-use Rattle.std.proofs.Common.{◌≡◌, ◌++◌, drop}
-use Rattle.rr_trip.specs.Judged.{zones_of_all}
-use Rattle.rr_trip.proofs.judge.put_all_zones.Given as goal
-
-abbrev pub invariant-loop-event : goal.invariant-loop-event
-invariant-loop-event l = l.zones ++ zones_of_all (drop l.event-index l.events) ≡ l.fn.zones ++ zones_of_all l.events
