@@ -4,7 +4,7 @@ use Rattle.std.specs.Prelude.{IfOk, Result}
 use Rattle.rr_io.specs.Outside.{KeepsHeld}
 use Rattle.rr_io.specs.declared.source.FetchError.{FetchError}
 use Rattle.rr_io.proofs.ToldLemmas.{both_held}
-use Rattle.rr_trip.specs.declared.file.TheConstants.{MAX_FILE}
+use Rattle.rr_seam.specs.declared.file.TheConstants.{MAX_FILE}
 use Rattle.rr_compare.specs.Words.{Asked, Request, comparison}
 use Rattle.rr_calendars.specs.Run.{AreFilesOf, content, contents}
 use Rattle.rr_calendars.specs.declared.work.Files.{Files}
@@ -13,11 +13,11 @@ content_kept : (old new : List ℕ → Option (List ℕ)) → KeepsHeld old new 
 content_kept old new keeps name = ap (option_map (take (MAX_FILE + 1))) (keeps name)
 
 pub both_fetched : (request : Request) (old new : List ℕ → Option (List ℕ)) (a b : List ℕ) → KeepsHeld old new
-    → IfSome (content old request.old) (λ bytes. a ≡ bytes) → IfSome (content new request.new) (λ bytes. b ≡ bytes)
+    → IfSome (content old request.old.name) (λ bytes. a ≡ bytes) → IfSome (content new request.new.name) (λ bytes. b ≡ bytes)
     → IfSome {T = List ℕ × List ℕ} (contents (Some (comparison request)) old) (λ (files : List ℕ × List ℕ). (a, b) ≡ files)
 both_fetched request old new a b keeps p q =
-    both_held (λ (files : List ℕ × List ℕ). (a, b) ≡ files) (content old request.old) (content old request.new) a b p
-    (rw (sym (content_kept old new keeps request.new)) q) refl
+    both_held (λ (files : List ℕ × List ℕ). (a, b) ≡ files) (content old request.old.name) (content old request.new.name) a b p
+    (rw (sym (content_kept old new keeps request.new.name)) q) refl
 
 -- what was fetched for one thing that is asked was fetched for the same thing
 pub fetched_for : (held : List ℕ → Option (List ℕ)) (said asked : Option Asked) (r : Result Files FetchError) → said ≡ asked

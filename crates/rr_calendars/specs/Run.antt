@@ -1,7 +1,7 @@
 -- What a run leaves, by its status.
 use Rattle.std.specs.Prelude.{◌≡◌, ◌⊎◌, ℕ, ◌+◌, List, [], ◌∷◌, ◌++◌, take, Option, None, Some, option_map, option_and_then, ⊤, IfSome}
 use Rattle.rr_io.specs.Outside.{Appended, AppendedPart, RoseOrIsLast}
-use Rattle.rr_trip.specs.declared.file.TheConstants.{MAX_FILE}
+use Rattle.rr_seam.specs.declared.file.TheConstants.{MAX_FILE}
 use Rattle.rr_compare.specs.Answer.{Answer, IsAnswer}
 use Rattle.rr_compare.specs.Words.{Asked, comparison, help}
 use Rattle.rr_compare.specs.declared.status.Status.{Status}
@@ -26,7 +26,7 @@ abbrev pub contents : Option Asked → (List ℕ → Option (List ℕ)) → Opti
 contents None held = Some ([], [])
 contents (Some help) held = Some ([], [])
 contents (Some (comparison request)) held =
-    option_and_then (λ old. option_map (λ new. (old, new)) (content held request.new)) (content held request.old)
+    option_and_then (λ old. option_map (λ new. (old, new)) (content held request.new.name)) (content held request.old.name)
 
 -- the bytes are those of the files that are asked for, where the source tells them
 abbrev pub AreFilesOf : Option Asked → (List ℕ → Option (List ℕ)) → List ℕ → List ℕ → Type 0
@@ -40,7 +40,7 @@ IsAnswerTo asked held answer = IfSome (contents asked held) (λ files. IsAnswer 
 abbrev pub IsFileOf : Option Asked → List ℕ → Type 0
 IsFileOf None name = ⊥
 IsFileOf (Some help) name = ⊥
-IsFileOf (Some (comparison request)) name = (name ≡ request.old) ⊎ (name ≡ request.new)
+IsFileOf (Some (comparison request)) name = (name ≡ request.old.name) ⊎ (name ≡ request.new.name)
 
 -- ---- what a run leaves
 

@@ -5,6 +5,7 @@ mod ended;
 mod exit;
 mod program;
 mod progress;
+mod taken;
 mod work;
 
 pub use ended::Ended;
@@ -12,17 +13,18 @@ use exit::exit_number;
 pub use program::run;
 use progress::Progress;
 pub use rr_compare::Status;
-use rr_compare::{Asked, parse};
+use rr_compare::{Asked, Language, parse};
 use rr_io::{HostSink, HostSource, NotRun};
 use rr_notes::{
     NO_MEMORY, NO_TEXT, WRITE_FAULT, note_on_calendar_refusal, note_on_calendar_words,
     note_on_file, note_on_utc, note_on_zones_of_file,
 };
-use rr_trip::MAX_FILE;
+use rr_seam::MAX_FILE;
 use std::alloc::AllocError;
 use std::env;
 use std::io::IsTerminal;
 use std::process::ExitCode;
+use taken::note_languages;
 
 // What is noted of how a run ended, by the first bytes of what it put.
 fn fixed_note(status: Status, answer: &[u8]) -> Option<&'static str> {
@@ -62,11 +64,19 @@ fn note_zones(rt: &HostRuntime, words: &[&str]) {
     let Some(Asked::Comparison(request)) = parse(words) else {
         return;
     };
-    for name in [request.old, request.new] {
-        if let Some(text) = note_on_zones_of_file(rt, name, MAX_FILE) {
+    for file in [request.old, request.new] {
+        if matches!(file.language, Some(Language::Graph | Language::Vcal)) {
+            continue;
+        }
+        if let Some(text) = note_on_zones_of_file(rt, file.name, MAX_FILE) {
             note(rt, text.as_str());
         }
     }
+}
+
+// Whether both files were read, so that the answer speaks of what stands in them.
+fn was_compared(status: Status) -> bool {
+    matches!(status, Status::Equal | Status::Differs | Status::Refused)
 }
 
 // Runs the words of the system over its files and standard streams, and notes what to do about the answer.
@@ -93,6 +103,9 @@ fn run_on_host(rt: &HostRuntime) -> Result<Ended, NotRun> {
     }
     if ended.in_utc > 0 {
         note_zones(rt, words);
+    }
+    if was_compared(ended.status) {
+        note_languages(rt, words);
     }
     Ok(ended)
 }

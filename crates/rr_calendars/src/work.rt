@@ -7,7 +7,8 @@ ghost use Rattle.rr_calendars.specs.Run.{AreFilesOf, GainsFile, IsAnswerTo, IsEn
 
 use rr_compare::{Asked, Outcome, Request, answer_to, parse};
 use rr_io::{FetchError, Source};
-use rr_trip::{MAX_FILE, Watch};
+use rr_seam::MAX_FILE;
+use rr_trip::Watch;
 use std::alloc::Global;
 
 // The bytes of a file.
@@ -43,8 +44,8 @@ fn fetch_both<S: Source>(
     ensures kept { (IsErrOf result FetchError.Failed → ⊥)
         → S.failed source.new ≡ S.failed source.old }
 {
-    let old = fetch(alloc, request.old, source)?;
-    let new = fetch(alloc, request.new, source)?;
+    let old = fetch(alloc, request.old.name, source)?;
+    let new = fetch(alloc, request.new.name, source)?;
     Ok(Files { old, new })
 }
 

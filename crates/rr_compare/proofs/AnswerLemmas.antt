@@ -1,35 +1,50 @@
--- What is answered to two files.
-use Rattle.std.proofs.Common.{◌≡◌, ℕ, ℤ, List, Option, Some, None, Err, sym, subst}
+-- What is answered over two files.
+use Rattle.std.proofs.Common.{◌≡◌, ℕ, Bool, List, Option, Some, None, Ok, Err, ap, sym, subst, ◌∙◌}
 use Rattle.std.specs.Prelude.{Result}
-use Rattle.rr_trip.specs.Report.{AnswersTrip}
-use Rattle.rr_trip.specs.Shown.{AnswersShow}
-use Rattle.rr_trip.specs.declared.file.TripFault.{TripFault}
-use Rattle.rr_trip.specs.declared.file.TripFault.TheVariants as trip
-use Rattle.rr_compare.specs.Outcomes.{AnswersFiles, outcome_is}
-use Rattle.rr_compare.specs.Answer.{IsNamed, IsOfBoth, IsReported}
+use Rattle.rr_model.specs.declared.verdict.Side.TheVariants.{A, B}
+use Rattle.rr_seam.specs.Files.{AnswersCalendar, IsCalendar}
+use Rattle.rr_seam.specs.Stated.{Calendar}
+use Rattle.rr_seam.specs.declared.file.FileFault.{FileFault}
+use Rattle.rr_seam.specs.declared.file.FileFault.TheVariants as file_fault
+use Rattle.rr_seam.specs.declared.file.FileRefusal.{FileRefusal}
+use Rattle.rr_compare.specs.Answer.{Answer, IsCompared, IsComparedWith, IsFaultAnswer, IsNamed, IsOfBoth, IsReported}
+use Rattle.rr_compare.specs.Calendars.{calendar_in}
 use Rattle.rr_compare.specs.Words.{Request}
-use Rattle.rr_compare.specs.declared.answers.Outcome.{Outcome}
+use Rattle.rr_compare.specs.declared.file.AnyFile.{AnyFile}
 
--- a fault of a comparison is one of the files
-pub trip_fault : (P : Outcome → Type 0) (offset : Option ℤ) (old new : List ℕ) (e : TripFault) → AnswersTrip offset old new (Err e)
-    → AnswersFiles P old new (Err e)
-trip_fault P offset old new (trip.Refused side r) h = h
-trip_fault P offset old new trip.NoMemory h = tt
+-- ---- a file that is read
 
-pub show_fault : (P : Outcome → Type 0) (offset : Option ℤ) (old new name : List ℕ) (e : TripFault) → AnswersShow offset old new name (Err e)
-    → AnswersFiles P old new (Err e)
-show_fault P offset old new name (trip.Refused side r) h = h
-show_fault P offset old new name trip.NoMemory h = tt
+-- two calendars with the same keys, whose events state the same, are one
+same_calendar : (c d : Calendar) → c.keys ≡ d.keys → ((indexes : List ℕ) → c.stated indexes ≡ d.stated indexes) → c ≡ d
+same_calendar c d keys stated = λ i. record { keys = keys i; stated = λ (indexes : List ℕ). stated indexes i }
 
--- what both files answer where no name is asked for, and where one is
-pub none_of_both : (show : Option (List ℕ)) (request : Request) (old new : List ℕ) (r : Result Outcome TripFault) → show ≡ None
-    → AnswersFiles (λ (x : Outcome). IsReported request old new (outcome_is x)) old new r
-    → AnswersFiles (λ (x : Outcome). IsOfBoth show request old new (outcome_is x)) old new r
-none_of_both show request old new r e h =
-    subst (λ (s : Option (List ℕ)). AnswersFiles (λ (x : Outcome). IsOfBoth s request old new (outcome_is x)) old new r) (sym e) h
+-- a calendar is the one that is wanted
+pub is_read : (wanted : Result Calendar FileRefusal) (c : Calendar) → IsCalendar wanted c → wanted ≡ Ok c
+is_read wanted c is = is.reads ∙ ap Ok (sym (same_calendar c is.of_file is.keys is.stated))
 
-pub some_of_both : (show : Option (List ℕ)) (name : List ℕ) (request : Request) (old new : List ℕ) (r : Result Outcome TripFault) → show ≡ Some name
-    → AnswersFiles (λ (x : Outcome). IsNamed request.offset name old new (outcome_is x)) old new r
-    → AnswersFiles (λ (x : Outcome). IsOfBoth show request old new (outcome_is x)) old new r
-some_of_both show name request old new r e h =
-    subst (λ (s : Option (List ℕ)). AnswersFiles (λ (x : Outcome). IsOfBoth s request old new (outcome_is x)) old new r) (sym e) h
+module _ (request : Request) (wanted : Result Calendar FileRefusal) (answer : Answer) where
+  pub read_a : (a : Calendar) (b : Result Calendar FileRefusal) → IsCalendar wanted a → IsComparedWith request a b answer → IsCompared request wanted b answer
+  read_a a b is h = subst (λ (w : Result Calendar FileRefusal). IsCompared request w b answer) (sym (is_read wanted a is)) h
+
+  pub read_b : (a b : Calendar) → IsCalendar wanted b → IsOfBoth request.show request.only_differences a b answer → IsComparedWith request a wanted answer
+  read_b a b is h = subst (λ (w : Result Calendar FileRefusal). IsComparedWith request a w answer) (sym (is_read wanted b is)) h
+
+  pub refused_a : (b : Result Calendar FileRefusal) (fault : FileFault) → AnswersCalendar {F = AnyFile} calendar_in wanted (Err fault)
+      → IsFaultAnswer A fault answer → IsCompared request wanted b answer
+  refused_a b (file_fault.Refused r) is h = subst (λ (w : Result Calendar FileRefusal). IsCompared request w b answer) (sym is) h
+  refused_a b file_fault.NoMemory is h = absurd h
+
+  pub refused_b : (a : Calendar) (fault : FileFault) → AnswersCalendar {F = AnyFile} calendar_in wanted (Err fault) → IsFaultAnswer B fault answer
+      → IsComparedWith request a wanted answer
+  refused_b a (file_fault.Refused r) is h = subst (λ (w : Result Calendar FileRefusal). IsComparedWith request a w answer) (sym is) h
+  refused_b a file_fault.NoMemory is h = absurd h
+
+-- ---- two calendars
+
+module _ (only_differences : Bool) (a b : Calendar) (answer : Answer) where
+  -- what is answered if no name is asked for, and if one is
+  pub none_of_both : (show : Option (List ℕ)) → show ≡ None → IsReported only_differences a b answer → IsOfBoth show only_differences a b answer
+  none_of_both show e h = subst (λ (s : Option (List ℕ)). IsOfBoth s only_differences a b answer) (sym e) h
+
+  pub some_of_both : (show : Option (List ℕ)) (name : List ℕ) → show ≡ Some name → IsNamed name a b answer → IsOfBoth show only_differences a b answer
+  some_of_both show name e h = subst (λ (s : Option (List ℕ)). IsOfBoth s only_differences a b answer) (sym e) h

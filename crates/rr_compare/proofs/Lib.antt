@@ -1,2 +1,4 @@
 mod WordLemmas
+mod LanguageLemmas
+mod FileLemmas
 mod AnswerLemmas

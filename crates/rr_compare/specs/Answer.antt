@@ -1,18 +1,21 @@
 -- What is answered to words over the bytes of both files.
-use Rattle.std.specs.Prelude.{◌≡◌, ◌⊎◌, ℕ, nat_lt, Bool, if◌then◌else◌, ℤ, List, length, Option, None, Some}
+use Rattle.std.specs.Prelude.{◌≡◌, ℕ, Bool, if◌then◌else◌, List, Option, None, Some, Result, Ok, Err}
 use Rattle.rr_model.specs.declared.verdict.Side.{Side}
+use Rattle.rr_model.specs.declared.verdict.Side.TheVariants.{A, B}
+use Rattle.rr_seam.specs.Stated.{Calendar}
+use Rattle.rr_seam.specs.declared.file.FileFault.{FileFault}
+use Rattle.rr_seam.specs.declared.file.FileFault.TheVariants as file_fault
+use Rattle.rr_seam.specs.declared.file.FileRefusal.{FileRefusal}
 use Rattle.rr_trip.specs.Counts.{count_said, counts_of, is_in_utc, status_of}
 use Rattle.rr_trip.specs.Printed.{file_refusal_line, report_text}
-use Rattle.rr_trip.specs.Report.{IsFileRefused, IsReportOf}
+use Rattle.rr_trip.specs.Report.{IsReport}
 use Rattle.rr_trip.specs.Shown.{IsShownIn}
-use Rattle.rr_trip.specs.declared.file.FileRefusal.{FileRefusal}
-use Rattle.rr_trip.specs.declared.file.TheConstants.{MAX_FILE}
 use Rattle.rr_trip.specs.declared.report.ReportLine.{ReportLine}
 use Rattle.rr_trip.specs.declared.report.Status.{Status as Ending}
 use Rattle.rr_trip.specs.declared.report.Status.TheVariants as ending
 use Rattle.rr_trip.specs.declared.said.Said.{Said}
 use Rattle.rr_trip.specs.declared.shown.Shown.{Shown}
-use Rattle.rr_zone.specs.Local.{in_local_time}
+use Rattle.rr_compare.specs.Calendars.{file_calendar}
 use Rattle.rr_compare.specs.Words.{Asked, Request, comparison, help}
 use Rattle.rr_compare.specs.declared.status.Status.{Status}
 use Rattle.rr_compare.specs.declared.status.Status.TheVariants.{Equal, Differs, Refused, Usage, ReadFault, WriteFault, NoMemory}
@@ -51,7 +54,7 @@ report_answer only_differences lines = record {
 abbrev pub refusal_answer : Side → FileRefusal → Answer
 refusal_answer side refusal = record { status = Refused; bytes = file_refusal_line side refusal; in_utc = 0 }
 
--- how many UIDs state UTC beside local time, where this is said of one
+-- how many UIDs state UTC beside local time, if this is said of one
 abbrev pub utc_count : Option Said → ℕ
 utc_count None = 0
 utc_count (Some said) = if is_in_utc said then 1 else 0
@@ -60,44 +63,41 @@ utc_count (Some said) = if is_in_utc said then 1 else 0
 abbrev pub shown_answer : Shown → Answer
 shown_answer shown = record { status = status_by shown.status; bytes = shown.text.items; in_utc = utc_count shown.said }
 
--- the answer is the report of both files
-pub record IsReported (request : Request) (old new : List ℕ) (answer : Answer) : Type 0 where
+-- the answer is the report of both calendars
+pub record IsReported (only_differences : Bool) (a b : Calendar) (answer : Answer) : Type 0 where
   pub lines : List ReportLine
-  pub report : IsReportOf request.offset old new lines
-  pub is : answer ≡ report_answer request.only_differences lines
+  pub report : IsReport a b lines
+  pub is : answer ≡ report_answer only_differences lines
 
--- the answer is the refusal of one file
-pub record IsFileAnswer (old new : List ℕ) (answer : Answer) : Type 0 where
-  pub side : Side
-  pub refusal : FileRefusal
-  pub refused : IsFileRefused side old new refusal
-  pub is : answer ≡ refusal_answer side refusal
-
--- what is shown of the events of a name in both files
-pub record IsNamed (offset : Option ℤ) (name old new : List ℕ) (answer : Answer) : Type 0 where
+-- the answer is what is shown of the events of a name in both calendars
+pub record IsNamed (name : List ℕ) (a b : Calendar) (answer : Answer) : Type 0 where
   pub shown : Shown
-  pub shows : IsShownIn offset old new name shown
+  pub shows : IsShownIn a b name shown
   pub is : answer ≡ shown_answer shown
 
--- what a comparison with two files that are not refused answers: the report, or what is shown of one name
-abbrev pub IsOfBoth : Option (List ℕ) → Request → List ℕ → List ℕ → Answer → Type 0
-IsOfBoth None request old new answer = IsReported request old new answer
-IsOfBoth (Some name) request old new answer = IsNamed request.offset name old new answer
+-- what is answered over two calendars: the report, or what is shown of one name
+abbrev pub IsOfBoth : Option (List ℕ) → Bool → Calendar → Calendar → Answer → Type 0
+IsOfBoth None only_differences a b answer = IsReported only_differences a b answer
+IsOfBoth (Some name) only_differences a b answer = IsNamed name a b answer
 
--- the answer to a request, over two files that are not refused
-abbrev pub IsOfRequest : Request → List ℕ → List ℕ → Answer → Type 0
-IsOfRequest request old new answer = IsOfBoth request.show request old new answer
+-- a fault of a file is answered so; to out of memory nothing is answered
+abbrev pub IsFaultAnswer : Side → FileFault → Answer → Type 0
+IsFaultAnswer side (file_fault.Refused refusal) answer = answer ≡ refusal_answer side refusal
+IsFaultAnswer side file_fault.NoMemory answer = ⊥
 
--- what a comparison answers over two texts
-abbrev pub IsCompared : Request → List ℕ × List ℕ → Answer → Type 0
-IsCompared request files answer = IsOfRequest request files.0 files.1 answer ⊎ IsFileAnswer files.0 files.1 answer
+-- what is answered over the calendar A and the file B, which is a calendar or is refused
+abbrev pub IsComparedWith : Request → Calendar → Result Calendar FileRefusal → Answer → Type 0
+IsComparedWith request a (Ok b) answer = IsOfBoth request.show request.only_differences a b answer
+IsComparedWith request a (Err refusal) answer = answer ≡ refusal_answer B refusal
 
--- a file as it is compared: with its moments of UTC in local time of the zones that it defines, unless it has more bytes than a file may have
-abbrev pub local_file : List ℕ → List ℕ
-local_file bytes = if nat_lt MAX_FILE (length bytes) then bytes else in_local_time bytes
+-- What is answered over two files, each of which is a calendar or is refused: if A is refused nothing is said of B.
+abbrev pub IsCompared : Request → Result Calendar FileRefusal → Result Calendar FileRefusal → Answer → Type 0
+IsCompared request (Ok a) b answer = IsComparedWith request a b answer
+IsCompared request (Err refusal) b answer = answer ≡ refusal_answer A refusal
 
--- what is asked is answered, over the bytes of the files, each in local time; the texts of usage and help are no promise
+-- what is asked is answered, over the bytes of the files; the texts of usage and help are no promise
 abbrev pub IsAnswer : Option Asked → List ℕ × List ℕ → Answer → Type 0
 IsAnswer None files answer = answer.status ≡ Usage
 IsAnswer (Some help) files answer = answer.status ≡ Equal
-IsAnswer (Some (comparison request)) files answer = IsCompared request (local_file files.0, local_file files.1) answer
+IsAnswer (Some (comparison request)) files answer =
+    IsCompared request (file_calendar request.old request.offset files.0) (file_calendar request.new request.offset files.1) answer

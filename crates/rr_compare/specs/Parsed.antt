@@ -1,7 +1,9 @@
 -- What the values of the program mean.
 use Rattle.std.specs.Prelude.{ℕ, List, map, Option, Some, option_map}
 use Rattle.std.specs.Borrow.{Bor}
+use Rattle.rr_compare.specs.Operands.{Operand}
 use Rattle.rr_compare.specs.Words.{Asked, Given, Request, asked_of, comparison, help}
+use Rattle.rr_compare.specs.declared.operand.Operand.{Operand as ParsedOperand}
 use Rattle.rr_compare.specs.declared.words.Asked.{Asked as ParsedAsked}
 use Rattle.rr_compare.specs.declared.words.Asked.TheVariants.{Help, Comparison}
 use Rattle.rr_compare.specs.declared.words.Given.{Given as ParsedGiven}
@@ -19,11 +21,19 @@ asked_of_words words = asked_of (words_of words)
 abbrev pub word_in : Option (Bor (List ℕ)) → Option (List ℕ)
 word_in word = option_map (λ (w : Bor (List ℕ)). w.now) word
 
+-- the file that a value of the program is
+abbrev pub operand_in : ParsedOperand → Operand
+operand_in operand = record { language = operand.language; offset = operand.offset; name = operand.name.now }
+
+-- the file that a value of the program is, if it is one
+abbrev pub file_in : Option ParsedOperand → Option Operand
+file_in operand = option_map operand_in operand
+
 -- the words so far that a value of the program is
 abbrev pub given_in : ParsedGiven → Given
 given_in given = record {
-  old = word_in given.old;
-  new = word_in given.new;
+  old = file_in given.old;
+  new = file_in given.new;
   only_differences = given.only_differences;
   offset = given.offset;
   show = word_in given.show;
@@ -33,8 +43,8 @@ given_in given = record {
 -- the comparison that a value of the program is
 abbrev pub request_in : ParsedRequest → Request
 request_in request = record {
-  old = request.old.now;
-  new = request.new.now;
+  old = operand_in request.old;
+  new = operand_in request.new;
   only_differences = request.only_differences;
   offset = request.offset;
   show = word_in request.show;

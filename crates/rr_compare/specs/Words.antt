@@ -1,17 +1,17 @@
 -- The words of the command line: two files, and options at any place.
-use Rattle.std.specs.Prelude.{ℕ, ◌==◌, nat_eq, Bool, true, false, not, ◌&&◌, ◌||◌, if◌then◌else◌, ℤ, List, [], ◌∷◌, length, take, drop, slice_index}
-use Rattle.std.specs.List.{starts_with}
+use Rattle.std.specs.Prelude.{ℕ, ◌==◌, Bool, true, false, not, ◌&&◌, ◌||◌, if◌then◌else◌, ℤ, List, [], ◌∷◌, length, take, drop, slice_index}
 use Rattle.std.specs.Prelude.{Option, Some, None, option_and_then, option_map, bytes_eq, codes}
 use Rattle.std.specs.Option.{is_some}
 use Rattle.rr_text.specs.Offset.{offset_of}
+use Rattle.rr_compare.specs.Operands.{Operand, operand_of}
 use Rattle.rr_compare.specs.declared.words.Next.{Next}
 use Rattle.rr_compare.specs.declared.words.Next.TheVariants.{Word, Offset, Name}
 
--- what is asked of two files: their names, whether equal events are left out, the stated offset from UTC in seconds, and the name of
--- the only event that is asked for
+-- what is asked of two files: which they are, whether equal events are left out, the stated offset of both from UTC in seconds, and the
+-- name of the only event that is asked for
 pub record Request : Type 0 where
-  pub old : List ℕ
-  pub new : List ℕ
+  pub old : Operand
+  pub new : Operand
   pub only_differences : Bool
   pub offset : Option ℤ
   pub show : Option (List ℕ)
@@ -23,8 +23,8 @@ pub data Asked : Type 0 where
 
 -- what the words state so far
 pub record Given : Type 0 where
-  pub old : Option (List ℕ)
-  pub new : Option (List ℕ)
+  pub old : Option Operand
+  pub new : Option Operand
   pub only_differences : Bool
   pub offset : Option ℤ
   pub show : Option (List ℕ)
@@ -38,16 +38,15 @@ nothing_given = record { old = None; new = None; only_differences = false; offse
 abbrev pub offset_in : List ℕ → Option ℤ
 offset_in text = if (length text == 6) && (slice_index text 3 == 58) then offset_of (take 3 text) (drop 4 text) else None
 
--- a word that is no file's name: it is empty, or begins with `--`
-abbrev pub is_no_name : List ℕ → Bool
-is_no_name word = (length word == 0) || starts_with nat_eq word (codes "--")
+-- the words so far with one file more: A, or else B; None if both are there
+abbrev pub with_operand : Given → Operand → Option Given
+with_operand given operand =
+    if not (is_some given.old) then Some (record given { old = Some operand })
+    else (if is_some given.new then None else Some (record given { new = Some operand }))
 
--- the words so far with one name more: that of A, or else that of B; None where both are there
+-- the words so far with the word of one file more; None if it names none
 abbrev pub with_file : Given → List ℕ → Option Given
-with_file given name =
-    if is_no_name name then None
-    else (if not (is_some given.old) then Some (record given { old = Some name })
-    else (if is_some given.new then None else Some (record given { new = Some name })))
+with_file given word = option_and_then (with_operand given) (operand_of word)
 
 -- the words so far with the value of `--offset`; None where it is no offset
 abbrev pub with_offset : Given → List ℕ → Option Given
@@ -91,12 +90,12 @@ is_word Word = true
 is_word Offset = false
 is_word Name = false
 
--- both names are `-`, standard input
-abbrev pub are_input : List ℕ → List ℕ → Bool
-are_input old new = bytes_eq old (codes "-") && bytes_eq new (codes "-")
+-- both files are `-`, standard input
+abbrev pub are_input : Operand → Operand → Bool
+are_input old new = bytes_eq old.name (codes "-") && bytes_eq new.name (codes "-")
 
--- what a comparison of two files asks for; None where an option waits for its value, or both files are standard input
-abbrev pub request_by : Given → List ℕ → List ℕ → Option Request
+-- what a comparison of two files asks for; None if an option waits for its value, or both files are standard input
+abbrev pub request_by : Given → Operand → Operand → Option Request
 request_by given old new =
     if not (is_word given.next) || are_input old new then None
     else Some (record { old = old; new = new; only_differences = given.only_differences; offset = given.offset; show = given.show })

@@ -1,18 +1,20 @@
 // What is answered to words, over the bytes of both files.
 ghost use Rattle.std.specs.Prelude.{◌≡◌, All, IfOk, option_map};
 ghost use Rattle.std.specs.Cow.{cow_slice_items};
-ghost use Rattle.rr_compare.specs.Answer.{IsAnswer, IsCompared, IsNamed, IsOfRequest, IsReported, local_file, report_answer, status_by, utc_count};
-ghost use Rattle.rr_compare.specs.Outcomes.{AnswersFiles, outcome_is};
-ghost use Rattle.rr_compare.specs.Parsed.{asked_in, asked_of_words, request_in};
+ghost use Rattle.rr_compare.specs.Answer.{IsAnswer, IsCompared, IsComparedWith, IsFaultAnswer, IsNamed, IsOfBoth, IsReported, report_answer, status_by, utc_count};
+ghost use Rattle.rr_compare.specs.Calendars.{calendar_as, calendar_in, file_calendar, local_file, offset_by, text_in};
+ghost use Rattle.rr_compare.specs.Outcomes.{outcome_is, text_calendar};
+ghost use Rattle.rr_compare.specs.Parsed.{asked_in, asked_of_words, operand_in, request_in};
 ghost use Rattle.rr_trip.specs.Said.{IsPrintableSaid};
 
+use crate::file::AnyFile;
+use crate::language::language_by;
+use crate::operand::Language;
 use crate::status::Status;
 use crate::words::{Asked, HELP, Request, USAGE, parse};
-use rr_model::NoMemory;
-use rr_trip::{
-    MAX_FILE, Report, Said, TripFault, Unwatched, Watch, compare, is_in_utc, print, print_refusal,
-    show,
-};
+use rr_model::{NoMemory, Side};
+use rr_seam::{FileFault, MAX_FILE};
+use rr_trip::{Report, Said, Unwatched, Watch, compare, is_in_utc, print, print_refusal, show};
 use rr_zone::local_text;
 use std::alloc::Global;
 use std::borrow::CowSlice;
@@ -57,24 +59,22 @@ fn report_outcome(
     })
 }
 
-// What is said of the report of two files.
+// What is said of the report of two calendars.
 fn comparison_outcome<W: Watch>(
     alloc: Global,
-    request: Request,
-    old: &[u8],
-    new: &[u8],
+    only_differences: bool,
+    a: &AnyFile,
+    b: &AnyFile,
     watch: &mut W,
-) -> Result<Outcome, TripFault>
-    ensures { AnswersFiles (λ x. IsReported (request_in request.entry) old.now new.now
-        (outcome_is x)) old.now new.now result }
+) -> Result<Outcome, NoMemory>
+    ensures { IfOk result (λ x. IsReported only_differences (calendar_in a.now) (calendar_in b.now)
+        (outcome_is x)) }
 {
-    match compare(alloc, request.offset, old, new, watch) {
-        Ok(report) => Ok(report_outcome(alloc, request.only_differences, &report)?),
-        Err(fault) => Err(fault),
-    }
+    let report = compare(alloc, a, b, watch)?;
+    report_outcome(alloc, only_differences, &report)
 }
 
-// How many events state UTC beside local time where this is said of one name.
+// How many events state UTC beside local time if this is said of one name.
 fn in_utc_count(said: Option<Said>) -> usize
     ensures { result ≡ utc_count said }
 {
@@ -84,41 +84,72 @@ fn in_utc_count(said: Option<Said>) -> usize
     if is_in_utc(said) { 1 } else { 0 }
 }
 
-// What is said of one name in two files.
-fn name_outcome(
-    alloc: Global,
-    offset: Option<i32>,
-    name: &str,
-    old: &[u8],
-    new: &[u8],
-) -> Result<Outcome, TripFault>
-    ensures { AnswersFiles (λ x. IsNamed offset name.now old.now new.now (outcome_is x))
-        old.now new.now result }
+// What is said of one name in two calendars.
+fn name_outcome(alloc: Global, name: &str, a: &AnyFile, b: &AnyFile) -> Result<Outcome, NoMemory>
+    ensures { IfOk result (λ x. IsNamed name.now (calendar_in a.now) (calendar_in b.now)
+        (outcome_is x)) }
 {
-    match show(alloc, offset, old, new, name.as_bytes()) {
-        Ok(shown) => Ok(Outcome {
-            status: status_by(shown.status),
-            in_utc: in_utc_count(shown.said),
-            text: shown.text,
-        }),
-        Err(fault) => Err(fault),
+    let shown = show(alloc, a, b, name.as_bytes())?;
+    Ok(Outcome {
+        status: status_by(shown.status),
+        in_utc: in_utc_count(shown.said),
+        text: shown.text,
+    })
+}
+
+// What is said of two calendars.
+fn outcome_of_both<W: Watch>(
+    alloc: Global,
+    request: Request,
+    a: &AnyFile,
+    b: &AnyFile,
+    watch: &mut W,
+) -> Result<Outcome, NoMemory>
+    ensures { IfOk result (λ x. IsOfBoth (request_in request.entry).show
+        request.entry.only_differences (calendar_in a.now) (calendar_in b.now) (outcome_is x)) }
+{
+    match request.show {
+        None => comparison_outcome(alloc, request.only_differences, a, b, watch),
+        Some(name) => name_outcome(alloc, name, a, b),
     }
 }
 
-// What is said of two files that are not refused.
-fn answer_of_both<W: Watch>(
+// What is said of a file that is refused.
+fn refusal_outcome(alloc: Global, side: Side, fault: FileFault) -> Result<Outcome, NoMemory>
+    ensures { IfOk result (λ x. IsFaultAnswer side fault (outcome_is x)) }
+{
+    match fault {
+        FileFault::Refused(refusal) => Ok(Outcome {
+            status: Status::Refused,
+            text: print_refusal(alloc, side, refusal)?,
+            in_utc: 0,
+        }),
+        FileFault::NoMemory => Err(NoMemory),
+    }
+}
+
+// A text that is read as a calendar.
+#[derive(Clone, Copy)]
+struct CalendarText<'a> {
+    language: Language,
+    offset: Option<i32>,
+    bytes: &'a [u8],
+}
+
+// What is said of a text beside the calendar A.
+fn outcome_beside<W: Watch>(
     alloc: Global,
     request: Request,
-    old: &[u8],
-    new: &[u8],
+    a: &AnyFile,
+    new: CalendarText,
     watch: &mut W,
-) -> Result<Outcome, TripFault>
-    ensures { AnswersFiles (λ x. IsOfRequest (request_in request.entry) old.now new.now
-        (outcome_is x)) old.now new.now result }
+) -> Result<Outcome, NoMemory>
+    ensures { IfOk result (λ x. IsComparedWith (request_in request.entry) (calendar_in a.now)
+        (text_calendar new.entry) (outcome_is x)) }
 {
-    match request.show {
-        None => comparison_outcome(alloc, request, old, new, watch),
-        Some(name) => name_outcome(alloc, request.offset, name, old, new),
+    match AnyFile::read(alloc, new.language, new.offset, new.bytes) {
+        Ok(b) => outcome_of_both(alloc, request, a, &b, watch),
+        Err(fault) => refusal_outcome(alloc, Side::B, fault),
     }
 }
 
@@ -126,21 +157,16 @@ fn answer_of_both<W: Watch>(
 fn compared_outcome<W: Watch>(
     alloc: Global,
     request: Request,
-    old: &[u8],
-    new: &[u8],
+    old: CalendarText,
+    new: CalendarText,
     watch: &mut W,
 ) -> Result<Outcome, NoMemory>
-    ensures { IfOk result (λ x. IsCompared (request_in request.entry) (old.now, new.now)
-        (outcome_is x)) }
+    ensures { IfOk result (λ x. IsCompared (request_in request.entry) (text_calendar old.entry)
+        (text_calendar new.entry) (outcome_is x)) }
 {
-    match answer_of_both(alloc, request, old, new, watch) {
-        Ok(outcome) => Ok(outcome),
-        Err(TripFault::Refused { side, refusal }) => Ok(Outcome {
-            status: Status::Refused,
-            text: print_refusal(alloc, side, refusal)?,
-            in_utc: 0,
-        }),
-        Err(TripFault::NoMemory) => Err(NoMemory),
+    match AnyFile::read(alloc, old.language, old.offset, old.bytes) {
+        Ok(a) => outcome_beside(alloc, request, &a, new, watch),
+        Err(fault) => refusal_outcome(alloc, Side::A, fault),
     }
 }
 
@@ -158,8 +184,58 @@ fn local_file(alloc: Global, bytes: &[u8]) -> Result<CowSlice<'_, u8>, NoMemory>
     }
 }
 
-// What is said of two files, each in local time.
-fn local_outcome<W: Watch>(
+// A file as it is read. Only iCalendar defines zones.
+fn text_in(alloc: Global, language: Language, bytes: &[u8]) -> Result<CowSlice<'_, u8>, NoMemory>
+    ensures { IfOk result (λ text. cow_slice_items text ≡ text_in language bytes.now) }
+{
+    match language {
+        Language::Ics => local_file(alloc, bytes),
+        Language::Graph | Language::Vcal => Ok(CowSlice::Borrowed(bytes)),
+    }
+}
+
+// The stated offset of a file: its own, otherwise that of both.
+fn offset_by(own: Option<i32>, both: Option<i32>) -> Option<i32>
+    ensures { result ≡ offset_by own both }
+{
+    match own {
+        Some(offset) => Some(offset),
+        None => both,
+    }
+}
+
+// What is said of two files in these languages.
+fn outcome_in<W: Watch>(
+    alloc: Global,
+    request: Request,
+    a: Language,
+    b: Language,
+    old: &[u8],
+    new: &[u8],
+    watch: &mut W,
+) -> Result<Outcome, NoMemory>
+    ensures { IfOk result (λ x. IsCompared (request_in request.entry)
+        (calendar_as a (offset_by request.entry.old.offset request.entry.offset) old.now)
+        (calendar_as b (offset_by request.entry.new.offset request.entry.offset) new.now)
+        (outcome_is x)) }
+{
+    let old = text_in(alloc, a, old)?;
+    let new = text_in(alloc, b, new)?;
+    let a = CalendarText {
+        language: a,
+        offset: offset_by(request.old.offset, request.offset),
+        bytes: &old,
+    };
+    let b = CalendarText {
+        language: b,
+        offset: offset_by(request.new.offset, request.offset),
+        bytes: &new,
+    };
+    compared_outcome(alloc, request, a, b, watch)
+}
+
+// What is said of two files, each in its language.
+fn files_outcome<W: Watch>(
     alloc: Global,
     request: Request,
     old: &[u8],
@@ -167,11 +243,13 @@ fn local_outcome<W: Watch>(
     watch: &mut W,
 ) -> Result<Outcome, NoMemory>
     ensures { IfOk result (λ x. IsCompared (request_in request.entry)
-        (local_file old.now, local_file new.now) (outcome_is x)) }
+        (file_calendar (operand_in request.entry.old) request.entry.offset old.now)
+        (file_calendar (operand_in request.entry.new) request.entry.offset new.now)
+        (outcome_is x)) }
 {
-    let old = local_file(alloc, old)?;
-    let new = local_file(alloc, new)?;
-    compared_outcome(alloc, request, &old, &new, watch)
+    let a = language_by(request.old.language, old);
+    let b = language_by(request.new.language, new);
+    outcome_in(alloc, request, a, b, old, new, watch)
 }
 
 // A text of the program's own.
@@ -187,7 +265,7 @@ fn text_outcome(alloc: Global, text: &[u8], status: Status) -> Result<Outcome, N
 }
 
 /// What is answered to what the words ask, over the bytes of both files, which are of no account if they ask for no comparison.
-/// Moments of UTC are read in local time of the zones that each file defines. The watch is told how far a comparison is, and that it has ended.
+/// Moments of UTC in iCalendar are read in local time of the zones that the file defines. The watch is told how far a comparison is, and that it has ended.
 pub fn answer_to<W: Watch>(
     alloc: Global,
     asked: Option<Asked>,
@@ -201,7 +279,7 @@ pub fn answer_to<W: Watch>(
     match asked {
         None => text_outcome(alloc, USAGE, Status::Usage),
         Some(Asked::Help) => text_outcome(alloc, HELP, Status::Equal),
-        Some(Asked::Comparison(request)) => local_outcome(alloc, request, old, new, watch),
+        Some(Asked::Comparison(request)) => files_outcome(alloc, request, old, new, watch),
     }
 }
 

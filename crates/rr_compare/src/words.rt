@@ -1,8 +1,9 @@
 // The words of the command line.
 ghost use Rattle.std.specs.Prelude.{◌≡◌, option_map};
-ghost use Rattle.rr_compare.specs.Words.{are_input, given_of, is_help, is_word, offset_in, request_of, with_file, with_name, with_offset, with_option, with_word};
-ghost use Rattle.rr_compare.specs.Parsed.{asked_in, asked_of_words, given_in, request_in, words_of};
+ghost use Rattle.rr_compare.specs.Words.{are_input, given_of, is_help, is_word, offset_in, request_of, with_file, with_name, with_offset, with_operand, with_option, with_word};
+ghost use Rattle.rr_compare.specs.Parsed.{asked_in, asked_of_words, given_in, operand_in, request_in, words_of};
 
+use crate::operand::{Operand, operand_of};
 use rr_text::offset_of;
 
 /// What is said of words that ask nothing.
@@ -15,23 +16,26 @@ pub const HELP: &[u8] =
 
   rr-calendars OLD NEW [--differences] [--offset +HH:MM] [--show UID]
 
-OLD and NEW are calendar files (iCalendar, RFC 5545) of at most 64 MiB; one of the two may be - for standard input.
-Events are found again by their UID. There is a line for each, in the order of their UIDs:
+OLD and NEW are calendar files of at most 64 MiB; one of the two may be - for standard input. Before a name its language may stand:
+ics: for iCalendar (RFC 5545), graph: for a list of events of Microsoft Graph in JSON, vcal: for vCalendar 1.0. A bare name is told by
+its content. graph@+01:00:NAME states local time less UTC for this file alone. A file whose own name begins so is ./graph:NAME.
+Events are found again by their UID, those of Graph by their iCalUId. There is a line for each, in the order of their UIDs:
 
   equal UID                           the same occurrences
   differs UID no MOMENT A             the first occurrence that only OLD (A) or only NEW (B) has
   only A UID                          only this file has the event
-  refused UID A REASON LINE           the event cannot be read, with the line in the file
+  refused UID A REASON LINE           the event cannot be read, with the line in the file, of Graph the number of the event
 
-Behind it stands zone where TZID parameters differ, or UTC stands beside local time: local times are compared, and zones are not.
+Behind it stands zone where the names of zones differ, or UTC stands beside local time: local times are compared, and zones are not.
 --differences leaves out the lines of equal events without zone. Moments of UTC beside local time are read by the zones that the file
 defines; --offset states local time less UTC, for those that no zone turns.
 The last line counts them all. On a terminal a comparison of more than a second says how far it is.
 
---show UID prints the line of this event alone, the UID as it is printed here, and below it, where it differs, the month of the
-first difference and the two after it, Monday first: = for a day with the same times in both, x for one with others, A and B
-for a day that this file alone has, . for one that none has; then the days with others than the usual times. Of a UID that neither
-file has it prints unknown UID, with status 2.
+--show UID prints the line of this event alone, the UID as it is printed here, and below it, where it differs, how many differences
+more there are and until when (more 51 until MOMENT, more 0, more for ever, more 9999 at least), and the month of the first one and
+the two after it, Monday first: = for a day with the same times in both, x for one with others, A and B for a day that this file
+alone has, . for one that none has; then the days with others than the usual times. Of a UID that neither file has it prints
+unknown UID, with status 2.
 
 The status is 0 where all are equal, 1 where one differs or stands in one file alone, 2 where none does but one is refused,
 3 for other words, 4 where a file could not be read, 5 where the output could not be written, 6 out of memory, 7 where a word is
@@ -41,13 +45,13 @@ no text in UTF-8.
 /// What is asked of two files.
 #[derive(Clone, Copy)]
 pub struct Request<'a> {
-    /// The name of the file A, which is not empty.
-    pub old: &'a str,
-    /// The name of the file B, which is not empty.
-    pub new: &'a str,
+    /// The file A.
+    pub old: Operand<'a>,
+    /// The file B.
+    pub new: Operand<'a>,
     /// Whether the lines of equal events are left out.
     pub only_differences: bool,
-    /// The stated offset, local time less UTC, in seconds.
+    /// The stated offset of a file that has none of its own, local time less UTC, in seconds.
     pub offset: Option<i32>,
     /// The name of the only event that is asked for, as a report prints it, which is not empty.
     pub show: Option<&'a str>,
@@ -76,8 +80,8 @@ pub enum Next {
 // The words so far.
 #[derive(Clone, Copy)]
 struct Given<'a> {
-    old: Option<&'a str>,
-    new: Option<&'a str>,
+    old: Option<Operand<'a>>,
+    new: Option<Operand<'a>>,
     only_differences: bool,
     offset: Option<i32>,
     show: Option<&'a str>,
@@ -95,16 +99,14 @@ fn offset_in(text: &[u8]) -> Option<i32>
     }
 }
 
-// With the name of a file, the first of which is A.
-fn with_file<'a>(given: Given<'a>, name: &'a str) -> Option<Given<'a>>
-    ensures { option_map given_in result ≡ with_file (given_in given.entry) name.now }
+// With a file, the first of which is A.
+fn with_operand<'a>(given: Given<'a>, operand: Operand<'a>) -> Option<Given<'a>>
+    ensures { option_map given_in result
+        ≡ with_operand (given_in given.entry) (operand_in operand.entry) }
 {
-    if name.is_empty() || name.starts_with("--") {
-        return None;
-    }
     if given.old.is_none() {
         return Some(Given {
-            old: Some(name),
+            old: Some(operand),
             ..given
         });
     }
@@ -112,9 +114,17 @@ fn with_file<'a>(given: Given<'a>, name: &'a str) -> Option<Given<'a>>
         return None;
     }
     Some(Given {
-        new: Some(name),
+        new: Some(operand),
         ..given
     })
+}
+
+// With the word of a file.
+fn with_file<'a>(given: Given<'a>, word: &'a str) -> Option<Given<'a>>
+    ensures { option_map given_in result ≡ with_file (given_in given.entry) word.now }
+{
+    let operand = operand_of(word)?;
+    with_operand(given, operand)
 }
 
 // With the value of `--offset`.
@@ -201,10 +211,10 @@ fn is_word(next: Next) -> bool
 }
 
 // Whether both are standard input.
-fn are_input(old: &str, new: &str) -> bool
-    ensures { result ≡ are_input old.now new.now }
+fn are_input(old: Operand, new: Operand) -> bool
+    ensures { result ≡ are_input (operand_in old.entry) (operand_in new.entry) }
 {
-    old == "-" && new == "-"
+    old.name == "-" && new.name == "-"
 }
 
 // The comparison that the words ask. Standard input, `-`, can be one of the files alone.

@@ -32,13 +32,45 @@ fn note_on_value(alloc: Global, option: &str, word: &str) -> Result<Option<Strin
     Ok(None)
 }
 
+// Whether a text is the language of a calendar file.
+fn is_language(text: &str) -> bool {
+    matches!(text, "ics" | "graph" | "vcal")
+}
+
+// The name of a file in its word, behind its language and its own offset; none where these are wrong.
+fn file_name(word: &str) -> Option<&str> {
+    let Some((head, rest)) = word.split_once(':') else {
+        return Some(word);
+    };
+    match head.split_once('@') {
+        None if is_language(head) => Some(rest),
+        Some((language, hours)) if is_language(language) => {
+            let (minutes, name) = rest.split_once(':')?;
+            offset_of(hours.as_bytes(), minutes.as_bytes())?;
+            Some(name)
+        }
+        _ => Some(word),
+    }
+}
+
+// What is wrong with the word of a file.
+fn note_on_name(alloc: Global, word: &str) -> Result<Option<String>, AllocError> {
+    match file_name(word) {
+        None => {
+            let word = shown(alloc, word)?;
+            Ok(Some(format!(in alloc;
+                "'{word}' has no offset from UTC behind its language, as graph@+01:00:NAME"
+            )?))
+        }
+        Some("") => Ok(Some(format!(in alloc; "the name of a file is empty")?)),
+        Some(_) => Ok(None),
+    }
+}
+
 // What is wrong with a word that is an option or a file.
 fn note_on_option(alloc: Global, word: &str) -> Result<Option<String>, AllocError> {
-    if word.is_empty() {
-        return Ok(Some(format!(in alloc; "the name of a file is empty")?));
-    }
     if !word.starts_with("--") {
-        return Ok(None);
+        return note_on_name(alloc, word);
     }
     match word {
         "--differences" => Ok(None),
@@ -91,6 +123,11 @@ fn files_of<'a>(alloc: Global, words: &[&'a str]) -> Result<Vec<&'a str>, AllocE
     Ok(files)
 }
 
+// Whether the word of a file names standard input.
+fn is_input(word: &str) -> bool {
+    file_name(word) == Some("-")
+}
+
 // What is wrong with words that ask nothing.
 fn text_on_words(alloc: Global, words: &[&str]) -> Result<String, AllocError> {
     if let Some(text) = note_on_first(alloc, words)? {
@@ -99,7 +136,7 @@ fn text_on_words(alloc: Global, words: &[&str]) -> Result<String, AllocError> {
     let files = files_of(alloc, words)?;
     match files.as_slice() {
         [old, new] => {
-            if *old == "-" && *new == "-" {
+            if is_input(old) && is_input(new) {
                 format!(in alloc; "standard input can be read once: one file alone may be -")
             } else {
                 format!(in alloc; "an option stands twice")
@@ -124,7 +161,12 @@ pub fn note_on_calendar_words(alloc: Global, words: &[&str]) -> Result<String, A
 pub fn note_on_calendar_refusal(answer: &[u8]) -> Option<&'static str> {
     match answer {
         b"refused A NoEvents\n" | b"refused B NoEvents\n" => {
-            Some("the file is no iCalendar: 'rr' reads one event of other languages")
+            Some("the file is no whole calendar: 'rr' reads one event alone")
+        }
+        b"refused A MorePages\n" | b"refused B MorePages\n" => {
+            Some(
+                "the file is one page of a list: join it with those that '@odata.nextLink' leads to",
+            )
         }
         _ => None,
     }

@@ -208,6 +208,15 @@ fn note_on_refusal_name(
     )?))
 }
 
+// What is wrong with a word in the place of one that stands for itself. In the place of no word it is one too many, which is not said here.
+fn note_on_itself(alloc: Global, wanted: &str, word: &str) -> Result<Option<String>, AllocError> {
+    if wanted.is_empty() || word == wanted {
+        return Ok(None);
+    }
+    let word = shown(alloc, word)?;
+    Ok(Some(format!(in alloc; "'{word}' stands in the place of the word {wanted}")?))
+}
+
 // What is wrong with a word in the place of a word of the table.
 fn note_on_word(
     alloc: Global,
@@ -227,7 +236,7 @@ fn note_on_word(
         "TO" => note_on_moment(alloc, word),
         "[COMMAND]" => note_on_name(alloc, word),
         "REFUSAL" => note_on_refusal_name(alloc, given, word),
-        _ => Ok(None),
+        _ => note_on_itself(alloc, wanted, word),
     }
 }
 

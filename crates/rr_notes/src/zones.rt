@@ -2,11 +2,10 @@
 ghost use Rattle.std.specs.Prelude.{◌<◌, ◌^◌};
 ghost use Rattle.rr_notes.specs.Visible.{IsVisibleNote};
 
+use crate::again::bytes_again;
 use crate::visible::{shown, shown_bytes, visible};
-use rr_io::{HostSource, Source};
 use rr_zone::{UnreadZone, ZoneFault, unread_zones};
 use std::alloc::{AllocError, Global};
-use std::fs;
 
 // Why a zone of a file turns nothing. Both names are as they are shown.
 fn text_on_zone(
@@ -49,23 +48,11 @@ fn note_on_zones(alloc: Global, file: &str, bytes: &[u8]) -> Result<Option<Strin
     }
 }
 
-// Whether a name is that of a file of the disk, which can be read once more.
-fn is_file(rt: &HostRuntime, name: &str) -> bool {
-    match fs::metadata(rt, name) {
-        Ok(found) => name != "-" && found.is_file(),
-        Err(_) => false,
-    }
-}
-
 /// Why a zone that an event of a file needs turns nothing, if there is one: the first of them. The file is read once more, up to one byte
 /// more than the limit. Nothing is noted of standard input, a pipe or a device, which can be read once.
 pub fn note_on_zones_of_file(rt: &HostRuntime, name: &str, limit: usize) -> Option<String>
     requires { limit < 2 ^ 62 }
 {
-    if !is_file(rt, name) {
-        return None;
-    }
-    let mut source = HostSource::new(rt.alloc(), rt);
-    let bytes = source.fetch_within(rt.alloc(), name, limit).ok()?;
+    let bytes = bytes_again(rt, name, limit)?;
     note_on_zones(rt.alloc(), name, bytes.as_slice()).ok()?
 }

@@ -1,5 +1,5 @@
 use Rattle.std.proofs.Common.{ℕ, ◌+◌, Vec, Global}
-use Rattle.rr_trip.specs.declared.file.TheConstants.{MAX_FILE}
+use Rattle.rr_seam.specs.declared.file.TheConstants.{MAX_FILE}
 use Rattle.rr_io.proofs.ToldLemmas.{fetched}
 use Rattle.rr_calendars.proofs.work.fetch.Goals as goal
 

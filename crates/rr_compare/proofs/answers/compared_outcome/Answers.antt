@@ -1,18 +1,20 @@
-use Rattle.std.proofs.Common.{ℕ, List, inl, inr, ap}
-use Rattle.rr_compare.specs.Answer.{Answer}
-use Rattle.rr_compare.specs.declared.status.Status.TheVariants.{Refused}
+use Rattle.std.proofs.lemmas.Result.{IfOk-weaker}
+use Rattle.rr_compare.specs.Calendars.{calendar_in}
+use Rattle.rr_compare.specs.Outcomes.{outcome_is, text_calendar}
+use Rattle.rr_compare.specs.Parsed.{request_in}
+use Rattle.rr_compare.proofs.AnswerLemmas.{read_a, refused_a}
 use Rattle.rr_compare.proofs.answers.compared_outcome.Goals as goal
 
 pub returns-in-Ok : goal.returns-in-Ok
-returns-in-Ok g c = inl c.in-Ok.ensures
+returns-in-Ok g c =
+    IfOk-weaker c.outcome_beside.result _ _
+    (λ x h. read_a (request_in c.args.request) (text_calendar c.args.old) (outcome_is x) (calendar_in c.in-Ok.a)
+    (text_calendar c.args.new) c.in-Ok.ensures h)
+    c.outcome_beside.ensures
 
-pub returns-in_ok-print_refusal-in-Err-Refused : goal.returns-in_ok-print_refusal-in-Err-Refused
-returns-in_ok-print_refusal-in-Err-Refused g c =
-    let refused = rw c.in-Err-Refused.field-0-is at c.in-Err-Refused.ensures in
-    let answered : List ℕ → Answer = λ (b : List ℕ). record { status = Refused; bytes = b; in_utc = 0 } in
-    inr (record {
-      side = c.in-Err-Refused.side;
-      refusal = c.in-Err-Refused.refusal;
-      refused = refused;
-      is = ap answered c.in_ok-print_refusal-in-Err-Refused.ensures;
-    })
+pub returns-in-Err : goal.returns-in-Err
+returns-in-Err g c =
+    IfOk-weaker c.refusal_outcome.result _ _
+    (λ x h. refused_a (request_in c.args.request) (text_calendar c.args.old) (outcome_is x)
+    (text_calendar c.args.new) c.in-Err.fault c.in-Err.ensures h)
+    c.refusal_outcome.ensures

@@ -1,0 +1,112 @@
+// A file of either calendar, in its language.
+ghost use Rattle.std.specs.Prelude.{◌≡◌};
+ghost use Rattle.rr_compare.specs.Calendars.{calendar_in, calendar_of};
+ghost use Rattle.rr_seam.specs.Files.{AnswersCalendar};
+
+use crate::operand::Language;
+use rr_graphfile::GraphFile;
+use rr_icalfile::IcalFile;
+use rr_model::NoMemory;
+use rr_seam::{EventFile, FileFault, Key, KeyFault, KeySeries};
+use rr_vcalfile::VcalFile;
+use std::alloc::Global;
+
+/// A file of either calendar, in its language.
+#[derive(Drop)]
+pub enum AnyFile<'a> {
+    /// iCalendar (RFC 5545).
+    Ics(IcalFile<'a>),
+    /// A list of events of Microsoft Graph.
+    Graph(GraphFile),
+    /// vCalendar 1.0.
+    Vcal(VcalFile<'a>),
+}
+
+impl<'a> AnyFile<'a> {
+    /// The calendar that a text is in a language, or why it is refused.
+    pub fn read(
+        alloc: Global,
+        language: Language,
+        offset: Option<i32>,
+        text: &'a [u8],
+    ) -> Result<AnyFile<'a>, FileFault>
+        ensures { AnswersCalendar calendar_in (calendar_of language offset text.now) result }
+    {
+        match language {
+            Language::Ics => read_ical(alloc, offset, text),
+            Language::Graph => read_graph(alloc, offset, text),
+            Language::Vcal => read_vcal(alloc, offset, text),
+        }
+    }
+}
+
+fn read_ical<'a>(
+    alloc: Global,
+    offset: Option<i32>,
+    text: &'a [u8],
+) -> Result<AnyFile<'a>, FileFault>
+    ensures { AnswersCalendar calendar_in (calendar_of Language.Ics offset text.now) result }
+{
+    match IcalFile::read(alloc, offset, text) {
+        Ok(file) => Ok(AnyFile::Ics(file)),
+        Err(fault) => Err(fault),
+    }
+}
+
+fn read_graph<'a>(
+    alloc: Global,
+    offset: Option<i32>,
+    text: &'a [u8],
+) -> Result<AnyFile<'a>, FileFault>
+    ensures { AnswersCalendar calendar_in (calendar_of Language.Graph offset text.now) result }
+{
+    match GraphFile::read(alloc, offset, text) {
+        Ok(file) => Ok(AnyFile::Graph(file)),
+        Err(fault) => Err(fault),
+    }
+}
+
+fn read_vcal<'a>(
+    alloc: Global,
+    offset: Option<i32>,
+    text: &'a [u8],
+) -> Result<AnyFile<'a>, FileFault>
+    ensures { AnswersCalendar calendar_in (calendar_of Language.Vcal offset text.now) result }
+{
+    match VcalFile::read(alloc, offset, text) {
+        Ok(file) => Ok(AnyFile::Vcal(file)),
+        Err(fault) => Err(fault),
+    }
+}
+
+impl<'a> EventFile for AnyFile<'a> {
+    ghost use Rattle.rr_compare.specs.Calendars.{keys_in, stated_in};
+
+    ghost keys = { keys_in };
+
+    ghost stated = { stated_in };
+
+    fn count(&self) -> usize {
+        match self {
+            AnyFile::Ics(file) => file.count(),
+            AnyFile::Graph(file) => file.count(),
+            AnyFile::Vcal(file) => file.count(),
+        }
+    }
+
+    fn key_at(&self, alloc: Global, index: usize) -> Result<Key, NoMemory> {
+        match self {
+            AnyFile::Ics(file) => file.key_at(alloc, index),
+            AnyFile::Graph(file) => file.key_at(alloc, index),
+            AnyFile::Vcal(file) => file.key_at(alloc, index),
+        }
+    }
+
+    fn key_series(&self, alloc: Global, indexes: &[usize]) -> Result<KeySeries, KeyFault> {
+        match self {
+            AnyFile::Ics(file) => file.key_series(alloc, indexes),
+            AnyFile::Graph(file) => file.key_series(alloc, indexes),
+            AnyFile::Vcal(file) => file.key_series(alloc, indexes),
+        }
+    }
+}
