@@ -1,0 +1,44 @@
+// What has been found of a plan, and what it may still take.
+use crate::bounds::Looks;
+use crate::events::Events;
+use std::alloc::Global;
+
+/// The events that have been found, and how many further exceptions and days looked at there may be.
+#[derive(Drop)]
+pub(crate) struct Plan {
+    /// The events.
+    pub events: Events,
+    /// The most of them.
+    pub most_parts: usize,
+    /// How many more exceptions there may be.
+    pub exceptions: usize,
+    /// How many more days may be looked at.
+    pub looks: Looks,
+}
+
+impl Plan {
+    /// Nothing has been found.
+    pub(crate) fn new(alloc: Global, most_parts: usize, most_exceptions: usize) -> Plan {
+        Plan {
+            events: Events::new(alloc),
+            most_parts,
+            exceptions: most_exceptions,
+            looks: Looks::new(),
+        }
+    }
+
+    /// Whether so many exceptions more are allowed, which are counted.
+    pub(crate) fn allows(&mut self, exceptions: u32) -> bool {
+        let exceptions = exceptions as usize;
+        if self.exceptions < exceptions {
+            return false;
+        }
+        self.exceptions -= exceptions;
+        true
+    }
+
+    /// Whether there may be an event more.
+    pub(crate) fn has_room(&self) -> bool {
+        self.events.len() < self.most_parts
+    }
+}

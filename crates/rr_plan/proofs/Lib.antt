@@ -1,0 +1,4 @@
+pub mod FewLemmas
+pub mod MoreLemmas
+pub mod OneLemmas
+pub mod SplitLemmas

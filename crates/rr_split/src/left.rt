@@ -1,0 +1,113 @@
+// What is left of one set without another.
+ghost use Rattle.std.specs.Prelude.{◌≤◌, ◌≤ℤ◌, IfOk, IfSome, IsTrue};
+ghost use Rattle.rr_model.specs.Sets.Sketch.{IsNearDay};
+ghost use Rattle.rr_model.specs.Whole.Divisors.{lcm};
+ghost use Rattle.rr_model.specs.declared.limits.TheConstants.{MAX_CYCLE_DAYS};
+ghost use Rattle.rr_days.specs.Sequence.{sketch};
+ghost use Rattle.rr_split.specs.Left.{AreCombinable, IsLeft};
+
+use rr_algebra::{Op, combine};
+use rr_days::Folded;
+use rr_model::{Fault, MAX_CYCLE_DAYS, NoMemory};
+use rr_num::lcm_within;
+use rr_word::{DaySeq, days_between};
+use std::alloc::Global;
+
+// A day so early that a period within the limit ends near.
+const LATEST_SETTLED: i64 = 900_000_000;
+
+/// The occurrences of one set that another has not; None if more than `most_days` days were read for it: those before the settled
+/// day of both, and those after which the two repeat together; or if what is left has too many moments.
+pub(crate) fn without(
+    alloc: Global,
+    one: &Folded,
+    other: &Folded,
+    most_days: u64,
+) -> Result<Option<Folded>, NoMemory>
+    ensures { IfOk result (λ found. IfSome found (λ f.
+        IsLeft (sketch one.now) (sketch other.now) (sketch f))) }
+{
+    if !are_compared_within(one, other, most_days) {
+        return Ok(None);
+    }
+    difference(alloc, one, other)
+}
+
+// Whether two sets are compared over at most so many days.
+fn are_compared_within(a: &Folded, b: &Folded, most_days: u64) -> bool {
+    match lcm_within(a.period(), b.period(), most_days) {
+        None => false,
+        Some(cycle) => days_before_both(a, b) <= most_days.saturating_sub(cycle),
+    }
+}
+
+// How many days lie from the first occupied one of two sets up to the settled day of both.
+fn days_before_both(a: &Folded, b: &Folded) -> u64 {
+    let settled = later_day(a.settled(), b.settled());
+    let first = earlier_day(b.first(), earlier_day(a.first(), settled));
+    days_between(first, settled)
+}
+
+// The later of two days.
+fn later_day(day: i64, other: i64) -> i64
+    requires day { IsNearDay day }
+    requires other { IsNearDay other }
+    ensures { IsNearDay result }
+{
+    day.max(other)
+}
+
+// The earlier of a day and the first day of a set, if it has one.
+fn earlier_day(first: Option<i64>, day: i64) -> i64
+    requires first { IfSome first IsNearDay }
+    requires day { IsNearDay day }
+    ensures near { IsNearDay result }
+    ensures not_after { result ≤ℤ day }
+{
+    match first {
+        None => day,
+        Some(first) => first.min(day),
+    }
+}
+
+// The occurrences of one set that another has not; None if the two repeat together only after too many days, or what is left has
+// too many moments.
+fn difference(alloc: Global, one: &Folded, other: &Folded) -> Result<Option<Folded>, NoMemory>
+    ensures { IfOk result (λ found. IfSome found (λ f.
+        IsLeft (sketch one.now) (sketch other.now) (sketch f))) }
+{
+    let combinable = are_combinable(one, other);
+    if !combinable {
+        return Ok(None);
+    }
+    match combine_minus(alloc, one, other) {
+        Ok(left) => Ok(Some(left)),
+        Err(Fault::NoMemory) => Err(NoMemory),
+        Err(Fault::Refused(_)) => Ok(None),
+    }
+}
+
+// The difference of two sets.
+fn combine_minus(alloc: Global, one: &Folded, other: &Folded) -> Result<Folded, Fault>
+    requires { AreCombinable (sketch one.now) (sketch other.now) }
+    ensures { IfOk result (λ f. IsLeft (sketch one.now) (sketch other.now) (sketch f)) }
+{
+    combine(alloc, Op::Minus, one, other)
+}
+
+// Whether one set can be combined with another.
+fn are_combinable(a: &Folded, b: &Folded) -> bool
+    ensures { IsTrue result → AreCombinable (sketch a.now) (sketch b.now) }
+{
+    if a.settled() > LATEST_SETTLED || b.settled() > LATEST_SETTLED {
+        return false;
+    }
+    repeat_together(a, b)
+}
+
+// Whether two sets repeat together within the limit.
+fn repeat_together(a: &Folded, b: &Folded) -> bool
+    ensures { IsTrue result → lcm (sketch a.now).period (sketch b.now).period ≤ MAX_CYCLE_DAYS }
+{
+    lcm_within(a.period(), b.period(), MAX_CYCLE_DAYS).is_some()
+}
