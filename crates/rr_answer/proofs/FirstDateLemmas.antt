@@ -226,7 +226,7 @@ repeat_from_year_one (repeat.Pattern pattern range) kind start t years from h =
     let late = h.1.not_before in
     omega (arith, ints, years.0, from.2, late)
 
-event_from_year_one : (event : GraphEvent) → IsValidGraphEvent event → OccurFromYearOne (IsGraphOccurrence event)
+pub event_from_year_one : (event : GraphEvent) → IsValidGraphEvent event → OccurFromYearOne (IsGraphOccurrence event)
 event_from_year_one event v k t h =
     subst (λ (l : Kind). IsFromYearOne (day_part l t)) (sym h.same_kind)
     (repeat_from_year_one event.repeat event.kind event.start t v.start v.repeats h.occurs)

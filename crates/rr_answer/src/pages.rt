@@ -19,6 +19,7 @@ pub const HELP: &[u8] =
   rr canon A             the canonical text: equal bytes exactly for equal occurrences; canon1 A writes its first version
   rr union A B           the canonical text of what either has; common A B: of what both have; minus A B: of what A alone has
   rr translate LANG A    the same occurrences in another language: rrule, vcal or graph
+  rr split N graph A     a plan for Microsoft Graph: at most N series, instances of them to cancel, and single events
   rr infer A             the first single rule that has the occurrences
   rr drill SEED N        how many verdicts between N drawn series are yes
   rr help [COMMAND]      this page, or what COMMAND prints; explain REFUSAL: what a refusal means, and what to do; version: the release
@@ -44,7 +45,7 @@ read, 5 if the output could not be written, 6 out of memory, 7 if a word is no t
 docs/MANUAL.md, and share/doc/rr/MANUAL.md in the folder of an installation.
 ";
 
-pub const VERSION: &[u8] = b"rr 0.14.0
+pub const VERSION: &[u8] = b"rr 0.15.0
 ";
 
 pub const HELP_EQUAL: &[u8] = b"rr equal A B
@@ -140,6 +141,13 @@ LANG is rrule, vcal or graph.
 A is LANG:FILE or LANG@OFFSET:FILE, as rrule:event.ics; LANG is rrule, vcal, graph or list, and with graph also rscale.
 ";
 
+pub const HELP_SPLIT: &[u8] = b"rr split N graph A
+
+It prints a plan for Microsoft Graph: at most N series, the instances of them to cancel and single events, which together have exactly the occurrences, each once; refused A NotSayable if the parts that are tried one after another do not lead there.
+N is a number from 1 to 64.
+A is LANG:FILE or LANG@OFFSET:FILE, as rrule:event.ics; LANG is rrule, vcal, graph, list, canon or rscale.
+";
+
 pub const HELP_INFER: &[u8] = b"rr infer A
 
 It prints the first single rule that has the occurrences.
@@ -192,7 +200,7 @@ pub const EXPLAIN_NO_START: &[u8] = b"NoStart
 
 It comes if there is no DTSTART, or no start in a Graph event.
 Languages: rrule, rscale, vcal, graph.
-What to do: add it: a rule alone says no dates. If the text is an answer of Graph with a list value, hand over one of its events, as jq '.value[0]' FILE prints it; rr does not read its cancelled and changed instances.
+What to do: add it: a rule alone says no dates. If the text is an answer of Graph with a list value, compare whole lists by rr-calendars OLD graph:NEW, or hand over one of its events, as jq '.value[0]' FILE prints it, without its cancelled and changed instances.
 ";
 
 pub const EXPLAIN_BAD_MOMENT: &[u8] = b"BadMoment LINE
@@ -357,9 +365,9 @@ What to do: compare one rule at a time.
 
 pub const EXPLAIN_NOT_SAYABLE: &[u8] = b"NotSayable
 
-It comes if no single rule or pattern that is looked for has these occurrences; it is no fault of the series.
-Languages: all but canon.
-What to do: translate the rule without its single dates, and carry these over beside it, or send several series.
+It comes if no single rule or pattern that is looked for has these occurrences, or on split the parts that are tried do not lead there; it is no fault of the series.
+Languages: all.
+What to do: for Microsoft Graph ask for several series, as rr split 12 graph rrule:FILE; if it has none, cut the series at a last date by rr common, and split that. For vCalendar 1.0 translate the rule without its single dates, and carry these over beside it.
 ";
 
 pub const EXPLAIN_TOO_MANY_PARTS: &[u8] = b"TooManyParts
@@ -418,6 +426,7 @@ pub fn help_of(name: &str) -> Option<&'static [u8]>
         "common" => Some(HELP_UNION),
         "minus" => Some(HELP_UNION),
         "translate" => Some(HELP_TRANSLATE),
+        "split" => Some(HELP_SPLIT),
         "infer" => Some(HELP_INFER),
         "drill" => Some(HELP_DRILL),
         "help" => Some(HELP_HELP),

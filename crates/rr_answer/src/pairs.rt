@@ -51,8 +51,10 @@ fn said_of_both(
     }
 }
 
-// What is said of the days of A and the bytes of B: the refusal of B, else what is asked of both.
-fn outcome_beside(
+/// What is said of the days of A and the bytes of B: the refusal of B, otherwise what is asked of both.
+///
+/// So who asks the same of one A and many B's folds A once.
+pub fn outcome_beside(
     alloc: Global,
     inquiry: Inquiry,
     a: &Folded,

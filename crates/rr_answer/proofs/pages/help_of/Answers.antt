@@ -53,6 +53,9 @@ returns-in-minus c = rw c.in-minus.is refl
 pub returns-in-translate : goal.returns-in-translate
 returns-in-translate c = rw c.in-translate.is refl
 
+pub returns-in-split : goal.returns-in-split
+returns-in-split c = rw c.in-split.is refl
+
 pub returns-in-infer : goal.returns-in-infer
 returns-in-infer c = rw c.in-infer.is refl
 
