@@ -1,9 +1,9 @@
 /* rr: whether a repeating series, or a whole calendar, survived a trip between calendars, for all years to come.
  *
- * The library has two functions, rr_answer and rr_calendars_answer. They read no file, and write nothing but what `out` and `length` point
- * to. They keep nothing between calls, so several threads may call them at once. They take memory by malloc and realloc, and have given
- * all of it back when they return. Below them stand functions with names, rr_equal, rr_within and rr_disjoint, and readers of what the two
- * answer, rr_read_no, rr_read_moment and rr_read_report_line, which are compiled into the caller.
+ * The library has three functions, rr_answer, rr_calendars_answer and rr_clear_answer. They read no file, and write nothing but what `out` and
+ * `length` point to. They keep nothing between calls, so several threads may call them at once. They take memory by malloc and realloc, and
+ * have given all of it back when they return. Below them stand functions with names, rr_equal, rr_within, rr_disjoint and rr_clear, and readers
+ * of what the three answer, rr_read_no, rr_read_moment, rr_read_clash and rr_read_report_line, which are compiled into the caller.
  *
  * Copyright the rr authors. SPDX-License-Identifier: MIT OR Apache-2.0
  */
@@ -12,19 +12,23 @@
 
 #include <stddef.h>
 #include <stdint.h>
+#include <stdlib.h>
 #include <string.h>
 
 #ifdef __cplusplus
 extern "C" {
 #endif
 
-/* What both return: the exit statuses of the programs rr and rr-calendars, and RR_TOO_SMALL. They return no other number; the programs' statuses
- * 4 and 5 are those of files. */
+/* What all three return: the exit statuses of the programs rr and rr-calendars, and RR_TOO_SMALL. They return no other number; the programs'
+ * statuses 4 and 5 are those of files. */
 enum rr_status {
-    RR_YES = 0,       /* the verdict is yes, or a command without a verdict is done; all events of two calendars are equal */
+    RR_YES = 0,       /* the verdict is yes, or a command without a verdict is done; all events of two calendars are equal; a candidate is clear
+                       * of all others */
     RR_NO = 1,        /* the verdict is no, and `out` names the first counterexample; nth finds fewer occurrences, differences some, and
-                       * between more than it prints; an event differs, or stands in one calendar alone */
-    RR_REFUSED = 2,   /* an operand is refused: `out` says which one and why; an event or a calendar is, and nothing else is wrong */
+                       * between more than it prints; an event differs, or stands in one calendar alone; a candidate clashes with one of the
+                       * others */
+    RR_REFUSED = 2,   /* an operand is refused: `out` says which one and why; an event, a calendar or one of the others is, and nothing else is
+                       * wrong */
     RR_USAGE = 3,     /* the words are no command: `out` has the usage line */
     RR_NO_MEMORY = 6, /* out of memory */
     RR_NO_TEXT = 7,   /* the words are no text in UTF-8 */
@@ -49,7 +53,8 @@ enum rr_status {
 uint32_t rr_answer(const uint8_t *words, size_t words_length, const uint8_t *a, size_t a_length, const uint8_t *b, size_t b_length,
                    uint8_t *out, size_t out_length, uint64_t *length);
 
-/* Compares two whole calendars (RFC 5545), as the program rr-calendars does: each event is found again by its UID.
+/* Compares two whole calendars, as the program rr-calendars does: each event is found again by its UID. A calendar is iCalendar (RFC 5545), a list
+ * of events of Microsoft Graph or vCalendar 1.0, as the word for its file states, "graph:a", or otherwise its content tells.
  *
  * words, words_length   the words of that program's command line, in the same form: "a\0b\0--differences" has length 17. The first two are for the
  *                       names of files, and stand for none: they are not empty, do not begin with "--", and are not both "-"
@@ -60,6 +65,23 @@ uint32_t rr_answer(const uint8_t *words, size_t words_length, const uint8_t *a, 
  */
 uint32_t rr_calendars_answer(const uint8_t *words, size_t words_length, const uint8_t *old_text, size_t old_length, const uint8_t *new_text,
                              size_t new_length, uint8_t *out, size_t out_length, uint64_t *length);
+
+/* Says whether one series, the candidate, ever runs at the same time as each of many others, as the command `clear` says it of two: a line for
+ * each of the others, in their order, "yes", "no MOMENT A B" with the first second that is shared and the occurrences of the candidate and of the
+ * other that run then, or why it is refused, as "refused B BadRule 2". If the candidate is refused, that is the one line: "refused A NoStart". The
+ * candidate is read, checked and made ready once, and not for each of the others.
+ *
+ * words, words_length  words with a zero byte between each two: how many seconds each occurrence of the candidate lasts, and its operand; then of
+ *                      each of the others its seconds, its operand, and how many bytes its text has. With one other
+ *                      "5400\0rrule:a\0003600\0rrule:b\00043" has length 28. Seconds are 1 to 31,622,400, which are 366 days. There may be no others
+ * candidate, candidate_length  the bytes of the candidate
+ * others, others_length        the bytes of the others one behind the other, and nothing between them; the lengths in the words add up to theirs, or
+ *                              the answer is the usage line, with RR_USAGE
+ *
+ * The rest is as of rr_answer. rr_clear, below, makes the words and reads the lines.
+ */
+uint32_t rr_clear_answer(const uint8_t *words, size_t words_length, const uint8_t *candidate, size_t candidate_length, const uint8_t *others,
+                         size_t others_length, uint8_t *out, size_t out_length, uint64_t *length);
 
 /* A text and its language: "rrule", "vcal", "graph", "list", "canon" or "rscale", with an offset behind it if it has moments in UTC
  * beside local time, as "rrule@+01:00". */
@@ -146,6 +168,19 @@ static inline int rr_read_no(const char *line, size_t length, struct rr_moment *
     return length == 4 ? memcmp(line, "both", 4) == 0 : length == 1 && (*line == 'A' || *line == 'B');
 }
 
+/* Reads the line of a no of `clear`, as "no 2024-02-05T10:00:00 2024-02-05T09:00:00 2024-02-05T10:00:00", with or without its line end: the first
+ * second that is shared, and the occurrences of the first and of the second series that run then. It returns whether it is one. */
+static inline int rr_read_clash(const char *line, size_t length, struct rr_moment *moment, struct rr_moment *a, struct rr_moment *b)
+{
+    if (length > 0 && line[length - 1] == '\n')
+        length--;
+    if (length < 3 || memcmp(line, "no ", 3) != 0)
+        return 0;
+    line += 3, length -= 3;
+    return rr_read_moment(&line, &length, moment) && rr_read_byte(&line, &length, ' ') && rr_read_moment(&line, &length, a) &&
+           rr_read_byte(&line, &length, ' ') && rr_read_moment(&line, &length, b) && length == 0;
+}
+
 /* What the report on two calendars says of the events of one UID. */
 enum rr_said {
     RR_SAID_EQUAL,   /* both calendars have the same occurrences of it, for ever */
@@ -157,7 +192,7 @@ enum rr_said {
 /* A line of that report. Its texts are parts of the line, so no zero byte stands behind them. */
 struct rr_report_line {
     enum rr_said said;
-    const char *key;         /* the UID as it is printed, or "line 12" for an event without one */
+    const char *key;         /* the UID as it is printed, or "line 12" for an event without one, of Graph "event 12" */
     size_t key_length;
     enum rr_side side;       /* unless equal: whose occurrence it is, which calendar has it, or in which it is refused */
     struct rr_moment moment; /* after RR_SAID_DIFFERS: the first occurrence that only one of them has */
@@ -177,13 +212,19 @@ static inline int rr_read_text(const char **text, size_t *left, const char *want
     return 1;
 }
 
-/* Reads a key: the bytes before the next blank, and behind the word "line" a blank and digits too, if they are there. */
+/* Whether a key without a UID begins so: with the word "line" or "event". */
+static inline int rr_begins_number(const char *key, size_t length)
+{
+    return (length == 4 && memcmp(key, "line", 4) == 0) || (length == 5 && memcmp(key, "event", 5) == 0);
+}
+
+/* Reads a key: the bytes before the next blank, and behind the word "line" or "event" a blank and digits too, if they are there. */
 static inline void rr_read_key(const char **text, size_t *left, struct rr_report_line *line)
 {
     line->key = *text;
     while (*left > 0 && **text != ' ')
         ++*text, --*left;
-    if (*text - line->key == 4 && memcmp(line->key, "line", 4) == 0 && *left > 1 && (*text)[1] >= '0' && (*text)[1] <= '9')
+    if (rr_begins_number(line->key, (size_t)(*text - line->key)) && *left > 1 && (*text)[1] >= '0' && (*text)[1] <= '9')
         do
             ++*text, --*left;
         while (*left > 0 && **text != ' ');
@@ -298,6 +339,105 @@ static inline struct rr_verdict rr_within(struct rr_series a, struct rr_series b
 static inline struct rr_verdict rr_disjoint(struct rr_series a, struct rr_series b)
 {
     return rr_ask("disjoint", a, b);
+}
+
+/* A series, and how many seconds each of its occurrences lasts: 1 to 31,622,400, which are 366 days. */
+struct rr_lasting {
+    struct rr_series series;
+    uint32_t seconds;
+};
+
+/* What is said of a candidate and one of the others. */
+struct rr_clearance {
+    uint32_t status;                          /* RR_YES: they never run at the same time; RR_NO; RR_REFUSED */
+    struct rr_moment moment, candidate, other; /* after RR_NO: the first second that is shared, and the occurrences of both that run then */
+    char line[112];                           /* what the program prints for the two, as of struct rr_verdict */
+};
+
+/* Puts a zero byte and a number behind the first *length bytes of words. */
+static inline void rr_put_number(char *words, size_t *length, uint64_t number)
+{
+    char digits[20];
+    size_t count = 0;
+    do
+        digits[count++] = (char)('0' + number % 10);
+    while ((number /= 10) > 0);
+    words[(*length)++] = 0;
+    while (count > 0)
+        words[(*length)++] = digits[--count];
+}
+
+/* Puts the words of a booking, which begin with a zero byte, and the texts of the others, and says whether each language may be one. */
+static inline int rr_put_booking(struct rr_lasting candidate, const struct rr_lasting *others, size_t count, char *words, size_t *length, char *texts)
+{
+    rr_put_number(words, length, candidate.seconds);
+    if (!rr_put_operand(words, length, candidate.series.language, 'a'))
+        return 0;
+    for (size_t i = 0; i < count; i++) {
+        const struct rr_series *series = &others[i].series;
+        rr_put_number(words, length, others[i].seconds);
+        if (!rr_put_operand(words, length, series->language, 'b'))
+            return 0;
+        rr_put_number(words, length, series->length);
+        if (series->length > 0)
+            memcpy(texts, series->text, series->length);
+        texts += series->length;
+    }
+    return 1;
+}
+
+/* Reads the line of one of the others at the front of *text, and leaves in *text and *left what follows it. */
+static inline void rr_read_clearance(const char **text, size_t *left, struct rr_clearance *said)
+{
+    const char *end = *left ? (const char *)memchr(*text, '\n', *left) : NULL;
+    size_t count = end ? (size_t)(end - *text) : *left, whole = end ? count + 1 : count;
+
+    memset(said, 0, sizeof *said);
+    memcpy(said->line, *text, count < sizeof said->line ? count : sizeof said->line - 1);
+    said->status = said->line[0] == 'y' ? RR_YES : said->line[0] == 'n' ? RR_NO : RR_REFUSED;
+    if (said->status == RR_NO)
+        rr_read_clash(said->line, count, &said->moment, &said->candidate, &said->other);
+    *text += whole;
+    *left -= whole;
+}
+
+/* Whether a candidate is clear of each of the others: never runs at the same time. It returns RR_YES if it is, RR_NO if it clashes with one,
+ * RR_REFUSED if it clashes with none and one can't be asked, RR_USAGE if a language or a number of seconds is none, or RR_NO_MEMORY. After the first
+ * three, said has for each of the others what is said of it, and of all the same refusal if the candidate is refused: `line` then begins with
+ * "refused A ". Otherwise said is as it was. It takes memory by malloc, and gives it back. */
+static inline uint32_t rr_clear(struct rr_lasting candidate, const struct rr_lasting *others, size_t count, struct rr_clearance *said)
+{
+    size_t sum = 1, words_length = 0, room = 112 * (count + 1);
+    uint64_t length = 0;
+    uint32_t status;
+
+    for (size_t i = 0; i < count; i++)
+        sum += others[i].series.length;
+    char *words = (char *)malloc(64 * (count + 1)), *texts = (char *)malloc(sum), *out = (char *)malloc(room);
+    if (!words || !texts || !out)
+        status = RR_NO_MEMORY;
+    else if (!rr_put_booking(candidate, others, count, words, &words_length, texts))
+        status = RR_USAGE;
+    else
+        status = rr_clear_answer((const uint8_t *)words + 1, words_length - 1,
+                                 (const uint8_t *)(candidate.series.length ? candidate.series.text : words), candidate.series.length,
+                                 (const uint8_t *)texts, sum - 1, (uint8_t *)out, room, &length);
+    if (status == RR_TOO_SMALL) /* (no line is so long) */
+        status = RR_USAGE;
+    if (status <= RR_REFUSED) {
+        int is_refused = length > 10 && memcmp(out, "refused A ", 10) == 0;
+        const char *text = out;
+        size_t left = (size_t)length;
+        for (size_t i = 0; i < count; i++) {
+            if (is_refused)
+                text = out, left = (size_t)length;
+            rr_read_clearance(&text, &left, &said[i]);
+        }
+    }
+    free(words);
+    free(texts);
+    free(out);
+    return status;
 }
 
 #ifdef __cplusplus

@@ -1,4 +1,4 @@
-/* Tries what reads the line of a no in rr.h, and what reads a line of the report on two calendars, also of lines that are none. It prints each
+/* Tries what reads the line of a no and that of a clash in rr.h, and what reads a line of the report on two calendars, also of lines that are none. It prints each
  * that fails, and ends with their number. */
 #include <rr.h>
 #include <stdio.h>
@@ -25,6 +25,22 @@ static const struct row rows[] = {
     { "no 224-01-03 A", 0, { 0, 0, 0, 0, 0, 0, 0 }, RR_A },
     { "no 99999999999999999999-01-03 A", 0, { 0, 0, 0, 0, 0, 0, 0 }, RR_A },
     { "refused A NoStart\n", 0, { 0, 0, 0, 0, 0, 0, 0 }, RR_A },
+};
+
+struct clash_row {
+    const char *line;
+    int is_clash;
+    struct rr_moment moment, a, b;
+};
+
+static const struct clash_row clash_rows[] = {
+    { "no 2024-02-05T10:00:00 2024-02-05T09:00:00 2024-02-05\n", 1, { 2024, 2, 5, 0, 10, 0, 0 }, { 2024, 2, 5, 0, 9, 0, 0 }, { 2024, 2, 5, 1, 0, 0, 0 } },
+    { "no 10000-02-05T00:00:01 10000-02-05 10000-02-05T00:00:01", 1, { 10000, 2, 5, 0, 0, 0, 1 }, { 10000, 2, 5, 1, 0, 0, 0 }, { 10000, 2, 5, 0, 0, 0, 1 } },
+    { "yes\n", 0, { 0, 0, 0, 0, 0, 0, 0 }, { 0, 0, 0, 0, 0, 0, 0 }, { 0, 0, 0, 0, 0, 0, 0 } },
+    { "no 2024-02-05 A", 0, { 0, 0, 0, 0, 0, 0, 0 }, { 0, 0, 0, 0, 0, 0, 0 }, { 0, 0, 0, 0, 0, 0, 0 } },
+    { "no 2024-02-05 2024-02-05", 0, { 0, 0, 0, 0, 0, 0, 0 }, { 0, 0, 0, 0, 0, 0, 0 }, { 0, 0, 0, 0, 0, 0, 0 } },
+    { "no 2024-02-05 2024-02-05 2024-02-05 ", 0, { 0, 0, 0, 0, 0, 0, 0 }, { 0, 0, 0, 0, 0, 0, 0 }, { 0, 0, 0, 0, 0, 0, 0 } },
+    { "", 0, { 0, 0, 0, 0, 0, 0, 0 }, { 0, 0, 0, 0, 0, 0, 0 }, { 0, 0, 0, 0, 0, 0, 0 } },
 };
 
 struct report_row {
@@ -91,6 +107,15 @@ int main(void)
             printf("report line %d: %s\n", (int)i, report_rows[i].text);
             failed++;
         }
+    for (size_t i = 0; i < sizeof clash_rows / sizeof *clash_rows; i++) {
+        const struct clash_row *row = &clash_rows[i];
+        struct rr_moment moment, a, b;
+        int is_clash = rr_read_clash(row->line, strlen(row->line), &moment, &a, &b);
+        if (is_clash != row->is_clash || (is_clash && !(is_same(&moment, &row->moment) && is_same(&a, &row->a) && is_same(&b, &row->b)))) {
+            printf("clash %d: %s\n", (int)i, row->line);
+            failed++;
+        }
+    }
     for (size_t i = 0; i < sizeof rows / sizeof *rows; i++) {
         const struct row *row = &rows[i];
         struct rr_moment moment;

@@ -44,18 +44,19 @@ from __future__ import annotations
 
 import ctypes
 import datetime
+import json
 from dataclasses import dataclass
-from typing import Callable, Iterator, Literal, overload
+from typing import Any, Callable, Iterable, Iterator, Literal, overload
 
-from ._library import NO, NO_MEMORY, REFUSED, TOO_SMALL, USAGE, rr_answer, rr_calendars_answer, version
-from ._report import Calendar, Counts, Key, Report, ReportLine, Shown, calendar_of, name_of, report_of, shown_of
+from ._library import NO, NO_MEMORY, REFUSED, TOO_SMALL, USAGE, rr_answer, rr_calendars_answer, rr_clear_answer, version
+from ._report import Calendar, Counts, EventNumber, Key, More, Report, ReportLine, Shown, calendar_of, name_of, report_of, shown_of
 from ._series import AnySeries, Language, Moment, Operand, Series, Text, is_aware, moment_of, offset_text, operand, text_of
 
 __all__ = [
-    "AnySeries", "Calendar", "Clash", "Counts", "Differs", "Key", "Language", "Moment", "OutOfMemory", "Refused", "Report", "ReportLine", "Series",
-    "Shown", "Text", "__version__",
-    "answer", "calendars", "canon", "canon1", "check", "clear", "common", "differences", "disjoint", "equal", "infer", "minus", "nth", "occurrences", "rank",
-    "translate", "union", "upcoming", "window", "within",
+    "AnySeries", "Calendar", "Clash", "Counts", "Differs", "EventNumber", "Key", "Language", "Moment", "More", "OutOfMemory", "Part", "Plan",
+    "Refused", "Report", "ReportLine", "Series", "Shown", "Text", "__version__",
+    "answer", "calendars", "canon", "canon1", "check", "clashes", "clear", "common", "differences", "disjoint", "equal", "infer", "minus", "nth",
+    "occurrences", "rank", "split", "translate", "union", "upcoming", "window", "within",
 ]
 
 __version__ = version()
@@ -77,7 +78,8 @@ class Differs:
 
 @dataclass(frozen=True)
 class Clash:
-    """A no of `clear`: the first second that is shared, and the occurrences of A and of B that run then. It is false in a condition."""
+    """A no of `clear`, or one of `clashes`: the first second that is shared, and the occurrences of A and of B that run then. It is false in a
+    condition."""
 
     moment: Moment
     a: Moment
@@ -85,6 +87,22 @@ class Clash:
 
     def __bool__(self) -> bool:
         return False
+
+
+@dataclass(frozen=True)
+class Part:
+    """A series of a plan: an event of Microsoft Graph, or its recurrence alone if it is of dates, and the instances of it to cancel."""
+
+    event: dict[str, Any]
+    cancelled: list[Moment]
+
+
+@dataclass(frozen=True)
+class Plan:
+    """Series and single events that together have the occurrences of one series, each once."""
+
+    parts: list[Part]
+    single: list[Moment]
 
 
 class Refused(ValueError):
@@ -145,9 +163,9 @@ def _seconds_of(duration: datetime.timedelta | int) -> str:
 
 
 def _count(n: int, most: int) -> str:
-    """A number of occurrences, as it is written in a word."""
+    """A number from 1 on, as it is written in a word."""
     if not 1 <= n <= most:
-        raise ValueError(f"the number of an occurrence is 1 to {most:,}, and not {n:,}")
+        raise ValueError(f"the number is 1 to {most:,}, and not {n:,}")
     return str(n)
 
 
@@ -264,10 +282,44 @@ def clear(a: AnySeries, a_lasts: datetime.timedelta | int, b: AnySeries, b_lasts
     """
     one, other = operand(a), operand(b)
     status, out = _ask(["clear", _seconds_of(a_lasts), one.word("a"), _seconds_of(b_lasts), other.word("b")], one, other)
-    if status != NO:
-        return True
-    _, moment, of_a, of_b = out.split()
-    return Clash(_shared(moment, one, other), one.moment(of_a), other.moment(of_b))
+    return True if status != NO else _clash(out, one, other)
+
+
+def _clash(line: str, one: Operand, other: Operand) -> Clash:
+    """The first clash of two series, by the line that says it."""
+    _, moment, a, b = line.split()
+    return Clash(_shared(moment, one, other), one.moment(a), other.moment(b))
+
+
+def clashes(
+    candidate: AnySeries, lasts: datetime.timedelta | int, others: Iterable[tuple[AnySeries, datetime.timedelta | int]]
+) -> dict[int, Clash | Refused]:
+    """With which of many others a candidate clashes, by their numbers from 0 on: the first clash of each, as `clear` has it, or its refusal.
+    Those that the candidate is clear of are not there, so if it is clear of all, nothing is. The others are pairs of a series and how long
+    each of its occurrences lasts. The candidate is read and made ready once; if it is refused itself, that is a Refused.
+
+    >>> course = "DTSTART:20240101T090000\\nRRULE:FREQ=WEEKLY\\n"
+    >>> board = "DTSTART:20240105T100000\\nRRULE:FREQ=MONTHLY\\n"
+    >>> hour = datetime.timedelta(hours=1)
+    >>> clashes(course, datetime.timedelta(minutes=90), [(board, hour), ("DTSTART:20240102T090000\\nRRULE:FREQ=WEEKLY\\n", hour)])
+    {0: Clash(moment=datetime.datetime(2024, 2, 5, 10, 0), a=datetime.datetime(2024, 2, 5, 9, 0), b=datetime.datetime(2024, 2, 5, 10, 0))}
+    >>> clashes(course, hour, [(board, hour)])
+    {}
+    """
+    if rr_clear_answer is None:
+        raise NotImplementedError("the shared library is of an older release, and asks only of two series at once")
+    one, rest = operand(candidate), [(operand(series), _seconds_of(it)) for series, it in others]
+    words = [_seconds_of(lasts), one.word("a")]
+    for it, seconds in rest:
+        words += [seconds, it.word("b"), str(len(it.data))]
+    status, out = _answer_by(rr_clear_answer, words, one.data, b"".join(it.data for it, _ in rest), _ROOM + 4 * _LINE * len(rest))
+    if status >= USAGE:
+        raise ValueError(f"not within what rr takes: {' '.join(words[:64])}")
+    text = out.decode()
+    if text.startswith("refused A "):
+        raise _refused(text)
+    lines = enumerate(zip(text.splitlines(), (it for it, _ in rest)))
+    return {number: _refused(line) if line.startswith("refused ") else _clash(line, one, it) for number, (line, it) in lines if line != "yes"}
 
 
 def canon(series: AnySeries) -> str:
@@ -402,6 +454,22 @@ def translate(series: AnySeries, language: Literal["rrule", "vcal", "graph"]) ->
     return _text_of_one(["translate", language], series)
 
 
+def split(series: AnySeries, n: int) -> Plan:
+    """At most n series of Microsoft Graph, each with the instances of it to cancel, and single events, which together have exactly the
+    occurrences, each once; n is 1 to 64. Refused as NotSayable if the parts that are tried one after another do not lead there.
+
+    >>> plan = split("DTSTART:20240101T093000\\nRRULE:FREQ=DAILY\\nEXDATE:20240301T093000\\nRDATE:20240301T140000\\n", 12)
+    >>> plan.parts[0].event["recurrence"]["pattern"], plan.parts[0].cancelled
+    ({'interval': 1, 'type': 'daily'}, [datetime.datetime(2024, 3, 1, 9, 30)])
+    >>> plan.single
+    [datetime.datetime(2024, 3, 1, 14, 0)]
+    """
+    it = operand(series)
+    plan = json.loads(_of_one(["split", _count(n, 64), "graph"], it, _TEXT_ROOM)[1])
+    parts = [Part(part["event"], _moments(it, part["cancelled"])) for part in plan["parts"]]
+    return Plan(parts, _moments(it, plan["single"]))
+
+
 def infer(series: AnySeries) -> str:
     """The first single rule of iCalendar that has the occurrences; refused as NotSayable where none of those looked for has them.
 
@@ -421,7 +489,7 @@ def calendars(
     """What is said of two calendars, as docs/CALENDARS.md has it: each event is found again by its UID. Moments in UTC beside a local start
     are read by the zones of the calendar, and those that no zone turns by the offset, which says how far local time is ahead of UTC. With
     differences the lines of equal events in the same zones are left out. With show only the events of that UID are asked for, and the months
-    from their first difference on are painted. A calendar that can't be read as a whole is Refused, and a UID that neither has is a KeyError.
+    from their first difference on are painted; it is said how many differences more there are, and until when. A calendar that can't be read as a whole is Refused, and a UID that neither has is a KeyError.
 
     >>> board = "BEGIN:VEVENT\\nUID:board\\nDTSTART;VALUE=DATE:20240105\\nRRULE:FREQ=MONTHLY\\nEND:VEVENT\\n"
     >>> lunch = "BEGIN:VEVENT\\nUID:lunch\\nDTSTART:20240105T123000\\nEND:VEVENT\\n"

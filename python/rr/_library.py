@@ -51,5 +51,6 @@ def _function(name: str) -> Any:
 
 
 rr_answer = _function("rr_answer")
-# (a library of an older release compares no calendars)
+# (a library of an older release compares no calendars, and asks of no many at once)
 rr_calendars_answer = _function("rr_calendars_answer") if hasattr(_library, "rr_calendars_answer") else None
+rr_clear_answer = _function("rr_clear_answer") if hasattr(_library, "rr_clear_answer") else None

@@ -14,21 +14,37 @@ _MOST = 67_108_865
 Calendar = Union[str, bytes, bytearray, memoryview, "os.PathLike[str]"]
 """The text or the bytes of a calendar, or the path of its file, which is read at each call."""
 Key = Union[str, int]
-"""The UID of events; of an event without one the number of the line that begins it."""
+"""The UID of events; of an event without one the number of the line that begins it, or in a list of Microsoft Graph its EventNumber."""
 Said = Literal["equal", "differs", "only", "refused"]
+
+
+class EventNumber(int):
+    """The number of an event in a list of Microsoft Graph, from 1. It is no line: the key of event 8 is not that of line 8."""
+
+    def __eq__(self, other: object) -> bool:
+        return isinstance(other, EventNumber) and int(self) == int(other)
+
+    def __ne__(self, other: object) -> bool:
+        return not self == other
+
+    def __hash__(self) -> int:
+        return hash(("event", int(self)))
+
+    def __repr__(self) -> str:
+        return f"EventNumber({int(self)})"
 
 
 @dataclass(frozen=True)
 class ReportLine:
     """What is said of the events of one UID.
 
-    key         the UID as the file has it, or the line of an event without one
+    key         the UID as the file has it, or the line or the EventNumber of an event without one
     said        'equal': both have the same occurrences; 'differs': they do not; 'only': one calendar alone has events of it; 'refused': they can't
                 be compared
     side        unless equal: 'A' is the old calendar, 'B' the new one. Whose occurrence it is, which has the events, or in which they are refused
     moment      if they differ: the first occurrence that only one of them has, as a date or a moment of the local clock
     refusal     if they are refused: the name. docs/REFUSALS.md and docs/CALENDARS.md say of each name what to do
-    place       if they are refused: the number of the line, or of the rule if they are NotSynchronised
+    place       if they are refused: the number of the line, of Graph that of the event, or of the rule if they are NotSynchronised
     other_zone  the zones differ, by their names or as UTC beside local time: local times are compared, and zones are not
     """
 
@@ -67,12 +83,27 @@ class Report:
 
 
 @dataclass(frozen=True)
+class More:
+    """How many occurrences only one of two calendars has, beside the first of them.
+
+    count  how many, exactly; None if they never end, or end but are more than 9,999
+    until  the last of them, as a date or a moment of the local clock; None if there is none, or if the count is None
+    ends   whether there is a last one
+    """
+
+    count: int | None
+    until: Moment | None
+    ends: bool
+
+
+@dataclass(frozen=True)
 class Shown:
-    """What is said of the events of one UID, and, if they differ, the months from the first difference on, as the program paints them; otherwise
-    the picture is empty. It is true in a condition if they are equal."""
+    """What is said of the events of one UID, and, if they differ, the months from the first difference on, as the program paints them, and how
+    many differences more there are; otherwise the picture is empty, and more is None. It is true in a condition if they are equal."""
 
     line: ReportLine
     picture: str
+    more: More | None = None
 
     def __bool__(self) -> bool:
         return self.line.said == "equal"
@@ -93,9 +124,11 @@ def calendar_of(calendar: Calendar) -> bytes:
 def name_of(key: Key) -> str:
     r"""A key as it is printed and asked for: of a UID each byte but the visible ones of ASCII, and the backslash, is escaped.
 
-    >>> print(name_of(12), name_of("a@b"), name_of("caf\u00e9 \\"))
-    line 12 a@b caf\xc3\xa9\x20\x5c
+    >>> print(name_of(12), name_of("a@b"), name_of("caf\u00e9 \\"), name_of(EventNumber(12)))
+    line 12 a@b caf\xc3\xa9\x20\x5c event 12
     """
+    if isinstance(key, EventNumber):
+        return f"event {int(key)}"
     if isinstance(key, int):
         return f"line {key}"
     return "".join(chr(byte) if 0x20 < byte < 0x7F and byte != 0x5C else f"\\x{byte:02x}" for byte in key.encode("utf-8", "surrogateescape"))
@@ -110,12 +143,12 @@ def _uid_of(printed: str) -> str:
     return re.sub(rb"\\x([0-9a-f]{2})", lambda it: bytes([int(it.group(1), 16)]), printed.encode()).decode("utf-8", "surrogateescape")
 
 
-_KEY = r"(?:line (?P<line>[0-9]+)|(?P<uid>\S+))"
+_KEY = r"(?:line (?P<line>[0-9]+)|event (?P<event>[0-9]+)|(?P<uid>\S+))"
 _FORMS: list[tuple[Said, str]] = [
     ("equal", f"equal {_KEY}(?P<zone> zone)?"),
     ("differs", f"differs {_KEY} no (?P<moment>\\S+) (?P<side>[AB])(?P<zone> zone)?"),
     ("only", f"only (?P<side>[AB]) {_KEY}"),
-    ("refused", f"refused {_KEY} (?P<side>[AB]) (?P<refusal>[A-Za-z]+) (?P<place>[0-9]+)"),
+    ("refused", f"refused {_KEY} (?P<side>[AB]) (?P<refusal>[A-Za-z]+(?: [^ 0-9]\\S*)*) (?P<place>[0-9]+)"),
 ]
 
 
@@ -124,8 +157,10 @@ def line_of(text: str) -> ReportLine | None:
 
     >>> line_of("differs oncall@team.example no 2024-06-28 A zone")
     ReportLine(key='oncall@team.example', said='differs', side='A', moment=datetime.date(2024, 6, 28), refusal=None, place=None, other_zone=True)
-    >>> line_of("only B line 12").key
-    12
+    >>> line_of("only B line 12").key, line_of("only B event 12").key
+    (12, EventNumber(12))
+    >>> line_of("refused u B BadMember recurrence 3").refusal
+    'BadMember recurrence'
     >>> line_of("refused A BadLine 3")
     """
     for said, form in _FORMS:
@@ -136,9 +171,9 @@ def line_of(text: str) -> ReportLine | None:
 
 
 def _line(said: Said, it: dict[str, str | None]) -> ReportLine:
-    line, uid, side, moment, place = (it.get(name) for name in ("line", "uid", "side", "moment", "place"))
+    line, event, uid, side, moment, place = (it.get(name) for name in ("line", "event", "uid", "side", "moment", "place"))
     return ReportLine(
-        _uid_of(uid) if uid is not None else int(line or 0),
+        _uid_of(uid) if uid is not None else EventNumber(event) if event is not None else int(line or 0),
         said,
         None if side is None else "A" if side == "A" else "B",
         None if moment is None else moment_of(moment),
@@ -166,5 +201,23 @@ def report_of(text: str) -> Report | None:
 def shown_of(text: str) -> Shown | None:
     """What is shown of one UID by what is printed, or None if that is the refusal of a calendar."""
     first, _, rest = text.partition("\n")
-    line = line_of(first)
-    return None if line is None else Shown(line, rest.lstrip("\n"))
+    second, _, below = rest.partition("\n")
+    line, more = line_of(first), more_of(second)
+    if line is None:
+        return None
+    return Shown(line, rest.lstrip("\n")) if more is None else Shown(line, below.lstrip("\n"), more)
+
+
+def more_of(text: str) -> More | None:
+    """How many differences more there are, by the line that says so, or None if it is none.
+
+    >>> more_of("more 51 until 2025-03-31")
+    More(count=51, until=datetime.date(2025, 3, 31), ends=True)
+    >>> more_of("more 0").count, more_of("more for ever").ends, more_of("more 9999 at least").count
+    (0, False, None)
+    """
+    it = re.fullmatch(r"more (?:(?P<count>[0-9]+)(?: until (?P<until>\S+)|(?P<least> at least))?|for ever)", text)
+    if it is None:
+        return None
+    count, until = it["count"], it["until"]
+    return More(None if count is None or it["least"] else int(count), None if until is None else moment_of(until), count is not None)

@@ -1,0 +1,3 @@
+mod OtherLemmas
+mod LineLemmas
+mod OneLemmas
