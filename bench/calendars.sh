@@ -1,7 +1,8 @@
 #!/bin/sh
 # What two calendars of 10,000 everyday events cost: seconds and the most memory, of a comparison of equal files, of one in which every
 # tenth event differs, and of two files of 10,000 weekly events that end in local time and in UTC, read by the zone of the file: the second
-# may take at most 1.3 times what the first takes. Usage: bench/calendars.sh [PROGRAM [EVENTS]], after the program was built; it stands on GNU time.
+# may take at most 1.3 times what the first takes; and of 10,000 events as a list of Microsoft Graph beside the same list, which may take at
+# most twice what the first comparison takes. Usage: bench/calendars.sh [PROGRAM [EVENTS]], after the program was built; it stands on GNU time.
 set -eu
 program=${1:-$(dirname -- "$0")/../crates/rr_calendars/out/rr_calendars}
 events=${2:-10000}
@@ -81,3 +82,33 @@ for ends in local utc; do
     /usr/bin/time -f '%e s (%U of the processor), %M KB' -o "$scratch/time" "$program" "$scratch/$ends.ics" "$scratch/$ends.ics" --differences >"$scratch/said" || status=$?
     printf 'ends in %s: status %s, %s, %s\n' "$ends" "$status" "$(tail -n 1 "$scratch/time")" "$(tail -n 1 "$scratch/said")"
 done
+
+# listed: the same mix as a list of Microsoft Graph, each series with the instances that it lists.
+listed() {
+    awk -v n="$events" 'BEGIN {
+        split("weekly|weekly|weekly|absoluteMonthly|relativeMonthly|absoluteYearly||daily", type, "|")
+        split("1|1|2|1|1|1||1", interval, "|")
+        split(",\"daysOfWeek\":[\"monday\"]|,\"daysOfWeek\":[\"monday\",\"wednesday\"]|,\"daysOfWeek\":[\"monday\"]|,\"dayOfMonth\":8|,\"daysOfWeek\":[\"monday\"],\"index\":\"second\"|,\"dayOfMonth\":8,\"month\":1||", more, "|")
+        printf "{\"value\":["
+        for (i = 0; i < n; i++) {
+            k = 1 + i % 8
+            time = sprintf("T%02d:%02d:00.0000000\",\"timeZone\":\"Europe/Berlin\"}", 8 + i % 10, i % 4 * 15)
+            if (i) printf ","
+            printf "\n{\"id\":\"AQMk%06d=\",\"iCalUId\":\"%06d-event@bench.example\",\"subject\":\"Event %d\"", i, (i * 7919) % 1000000, i
+            printf ",\"type\":\"%s\",\"isAllDay\":false,\"isCancelled\":false", type[k] == "" ? "singleInstance" : "seriesMaster"
+            printf ",\"start\":{\"dateTime\":\"2024-01-08" time
+            if (type[k] == "") { printf "}"; continue }
+            printf ",\"recurrence\":{\"pattern\":{\"type\":\"%s\",\"interval\":%d%s}", type[k], interval[k], more[k]
+            printf ",\"range\":{\"type\":\"%s\",\"startDate\":\"2024-01-08\"%s}}", k == 8 ? "numbered" : "noEnd", k == 8 ? ",\"numberOfOccurrences\":5" : ""
+            printf ",\"cancelledOccurrences\":[],\"exceptionOccurrences\":["
+            if (i % 20 == 0) printf "{\"id\":\"AQMk%06dx=\",\"occurrenceId\":\"OID.AQMk%06d=.2024-01-15\",\"type\":\"exception\",\"start\":{\"dateTime\":\"2024-01-16" time "}", i, i
+            printf "]}"
+        }
+        print "\n]}"
+    }'
+}
+
+listed >"$scratch/list.json"
+status=0
+/usr/bin/time -f '%e s (%U of the processor), %M KB' -o "$scratch/time" "$program" "graph:$scratch/list.json" "graph:$scratch/list.json" --differences >"$scratch/said" || status=$?
+printf 'lists of Graph: status %s, %s, %s\n' "$status" "$(tail -n 1 "$scratch/time")" "$(tail -n 1 "$scratch/said")"

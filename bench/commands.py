@@ -111,6 +111,11 @@ def check_table(table):
             fail(f"usage: there is no command {name}")
 
 
+def is_itself(word):
+    """Whether a word of the table stands for itself."""
+    return word.islower()
+
+
 def usage_line(table):
     words = {it.name: it.text() for it in table.commands()}
     return "usage: rr " + " | ".join(words[name] for name in table.usage)
@@ -159,22 +164,32 @@ def tables(table):
 
 def synopsis(table):
     """Commands with the same words share a line. Words but A and B are small, or those that `man` says."""
+    def marked(word):
+        return f".Cm {word}" if is_itself(word) else word if word in OPERANDS else word.lower()
+
     alike = {}
     for group in table.groups:
         for command in group.commands:
-            small = " ".join(word if word in OPERANDS else word.lower() for word in command.words)
+            small = " ".join(marked(word) for word in command.words)
             alike.setdefault(group.told.get("man", small), []).append(command.name)
 
     def said(words):
-        return f".Op Ar {words[1:-1]}\n" if words.startswith("[") else f".Ar {words}\n" if words else ""
+        if words.startswith("["):
+            return f".Op Ar {words[1:-1]}\n"
+        parts = [part.strip() for part in re.split(r"(\.Cm \S+)", words)]
+        return "".join(f"{part if part.startswith('.') else f'.Ar {part}'}\n" for part in parts if part)
 
     return "".join(f".Nm\n.Cm {' | '.join(names)}\n{said(words)}" for words, names in alike.items())
 
 
+def places(table, is_such):
+    """The places of words that are such, as number:name; the first word after the name is number 3."""
+    return [f"{3 + place}:{it.name}" for it in table.commands() for place, word in enumerate(it.words) if is_such(word)]
+
+
 def plain_places(table):
-    """The places whose word is neither an operand nor one of a few names, as number:name; the first word after the name is number 3."""
-    places = [f"{3 + place}:{it.name}" for it in table.commands() for place, word in enumerate(it.words) if word not in (*OPERANDS, *NAMED)]
-    return places
+    """The places whose word is neither an operand, nor one of a few names, nor itself."""
+    return places(table, lambda word: word not in (*OPERANDS, *NAMED) and not is_itself(word))
 
 
 def bash(table):
@@ -198,6 +213,7 @@ def fish(table):
 complete -c rr -n '__rr_at 1; or __rr_at 2 help' -a '{' '.join(table.names())}'
 complete -c rr -n '__rr_at 2 translate' -a '{' '.join(targets(table))}'
 complete -c rr -n '__rr_at 2 explain' -a '{' '.join(refusals())}'
+complete -c rr -n '__rr_at 3 split' -a graph
 complete -c rr -n '{operands}' -a '(__rr_operands)'
 """
 
@@ -337,13 +353,23 @@ def code_pages(table):
     return lines[:-1]
 
 
+# What each definition of a page is, in plain words.
+WORDS_OF = {
+    "HELP": "the page of help", "VERSION": "the line that names the release",
+    "help_of": "what a command prints and takes, if there is a command of this name",
+    "explanation_of": "what a refusal means and what to do, if there is a refusal of this name",
+}
+
+
 def defined_pages(table):
     made, lookups = texts(table)
     codes = {name: 'codes "' + text.replace("\n", "\\n") + '"' for name, text in made.items()}
-    lines = "".join(f"abbrev pub {name.lower()} : List ℕ\n{name.lower()} = {codes[name]}\n\n" for name in ("HELP", "VERSION"))
+    lines = "".join(
+        f"-- {WORDS_OF[name]}\nabbrev pub {name.lower()} : List ℕ\n{name.lower()} = {codes[name]}\n\n" for name in ("HELP", "VERSION"))
     for function, named in lookups.items():
         tests = [f'if bytes_eq name (codes "{word}") then Some ({codes[name]})\n' for word, name in named.items()]
-        lines += f"abbrev pub {function} : List ℕ → Option (List ℕ)\n{function} name =\n    {'    else '.join(tests)}    else None\n\n"
+        lines += f"-- {WORDS_OF[function]}\nabbrev pub {function} : List ℕ → Option (List ℕ)\n{function} name =\n"
+        lines += f"    {'    else '.join(tests)}    else None\n\n"
     return lines
 
 

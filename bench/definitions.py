@@ -183,7 +183,7 @@ QUESTIONS = {
     "how a text of RFC 5545 is read": ([(MODEL + "Text.Calendars", "reads_calendar")], []),
     "`equal` of two calendar texts, as it is printed": (roots_of("rr_cli/src/program.rt"), BESIDE_EQUAL),
     "the clauses of `run` of rr": (roots_of("rr_cli/src/program.rt"), []),
-    "what is said of two whole calendars": ([("rr_trip.specs.Report", "IsReportOf"), ("rr_trip.specs.Report", "IsFileRefused")], []),
+    "what is said of two whole calendars": ([("rr_trip.specs.Report", "IsReport"), ("rr_compare.specs.Calendars", "calendar_of")], []),
     "the clauses of `run` of rr-calendars": (roots_of("rr_calendars/src/program.rt"), []),
 }
 

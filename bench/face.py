@@ -2,7 +2,7 @@
 """bench/face.py
 
 Looks whether each page and script that names commands, languages or refusals names all that the sources have. The names are read from the
-sources: commands and languages from the words of rr_answer, refusals from rr_model and rr_trip. It prints each name that a place lacks,
+sources: commands and languages from the words of rr_answer, refusals from rr_model and rr_seam. It prints each name that a place lacks,
 then 'N passed, M failed'. Python 3 and its standard library are enough.
 """
 import re
@@ -56,7 +56,7 @@ def wanted():
     yield PYTHON_SERIES, WORD, languages
     yield PYTHON, r"(?m)^def {}\(", [name for name in commands if name not in NOT_IN_PYTHON]
     yield "docs/REFUSALS.md", r"(?m)^\| {}\b", variants("crates/rr_model/src/refusal.rt", "Refusal")
-    yield "docs/CALENDARS.md", WORD, variants("crates/rr_trip/src/gather.rt", "KeyRefusal")
+    yield "docs/CALENDARS.md", WORD, variants("crates/rr_seam/src/refusal.rt", "KeyRefusal")
 
 
 def main():
