@@ -3,8 +3,8 @@
 
 Runs each command of README.md and docs/*.md that stands in an indented line after '$', and compares what it prints with the lines
 below it. Runs the input of each row of docs/REFUSALS.md and looks for the row's name, of both if two operands stand in its words. Looks whether
-docs/TRUST.md has the counts that bench/definitions.py prints and names edits that are there, whether each file that a page links to is
-there, and whether README.md has at most 120 lines. PROGRAM stands in for ./rr and for the shipped program, CALENDARS for ./rr-calendars.
+docs/TRUST.md has the counts that bench/definitions.py prints and names edits that are there, and README.md two of the counts, whether each
+file that a page links to is there, whether no two rows or paragraphs of a page begin alike, and whether README.md has at most 120 lines. PROGRAM stands in for ./rr and for the shipped program, CALENDARS for ./rr-calendars.
 It prints each line that differs, then 'N passed, M failed'. Python 3 and its standard library are enough.
 """
 import os
@@ -21,6 +21,9 @@ SECONDS = 300
 PAGES = [TOP / "README.md", *sorted((TOP / "docs").glob("*.md"))]
 LINKING = sorted({*PAGES, *TOP.glob("*.md"), TOP / "tests/README.md", TOP / "release/README.md"})
 README_LINES = 120
+# The questions of bench/definitions.py whose lines README.md states, and how many letters of two rows or paragraphs may be the same.
+IN_README = ("a verdict on two series", "`equal` of two calendar texts")
+ALIKE = 60
 
 
 def commands_of(page):
@@ -73,11 +76,13 @@ def refusals():
 
 
 def trusted():
-    """What docs/TRUST.md says that can be looked up: a text, and whether it holds."""
+    """What docs/TRUST.md, and README.md of it, say that can be looked up: a text, and whether it holds."""
     page = (TOP / "docs/TRUST.md").read_text()
     counts = subprocess.run([sys.executable, str(TOP / "bench/definitions.py")], stdout=subprocess.PIPE).stdout.decode()
     for question, *numbers in re.findall(r"(.*): (\d+) definitions, (\d+) lines; in Rust (\d+) types and constants, (\d+) lines", counts):
         yield f"{question}: {numbers}", f"| {' | '.join(f'{int(it):,}' for it in numbers)} |" in page
+        if question.startswith(IN_README):
+            yield f"README.md, {question}: {numbers[1]} lines", f" {int(numbers[1]):,} " in PAGES[0].read_text()
     for crates, edits in re.findall(r"(rr_\w+(?:, rr_\w+)*): (`\w+`(?:, `\w+`)*)", page):
         for crate in crates.split(", "):
             for edit in re.findall(r"\w+", edits):
@@ -101,6 +106,16 @@ def links():
                 yield page, target, file.exists() and (not anchor or anchor in anchors(file))
 
 
+def twice(page):
+    """The rows and paragraphs of a page that begin as one above them does: the numbers of both lines."""
+    seen = {}
+    for number, line in enumerate(page.read_text().splitlines(), 1):
+        if len(line) >= ALIKE and not line.startswith(" "):
+            if line[:ALIKE] in seen:
+                yield number, seen[line[:ALIKE]]
+            seen[line[:ALIKE]] = number
+
+
 def main():
     passed, failed = 0, 0
 
@@ -122,6 +137,9 @@ def main():
         note("docs/TRUST.md", holds, said)
     for page, target, holds in links():
         note(page.relative_to(TOP), holds, f"the link {target} leads nowhere")
+    for page in LINKING:
+        found = list(twice(page))
+        note(page.relative_to(TOP), not found, f"lines that begin alike: {found}")
     lines = len(PAGES[0].read_text().splitlines())
     note("README.md", lines <= README_LINES, f"{lines} lines, more than {README_LINES}")
     print(f"{passed} passed, {failed} failed")
