@@ -6,7 +6,6 @@
 shipped=$here/release/$name-x86_64-linux
 static=$shipped-static
 built=$here/crates/$crate/out/$crate
-agreed=$here/out/release-agreed-$name
 made=$here/out/built-of
 . "$here/release/sources.sh"
 
@@ -16,21 +15,9 @@ cannot_run() {
     exit 125
 }
 
-# Whether the shipped programs are of the sources that stand here. If they were so once, only what has changed since is looked for.
-is_of_these_sources() {
-    [ -x "$shipped" ] && [ -f "$here/release/SOURCES" ] && read -r digest <"$here/release/SOURCES" || return 1
-    if [ -f "$agreed" ] && newer=$(first_newer "$here" -cnewer "out/release-agreed-$name" release/SOURCES "release/$name-x86_64-linux" 2>/dev/null) &&
-        [ -z "$newer" ]; then
-        return 0
-    fi
-    # (the stamp is made first, so that what changes while the sources are read is newer)
-    { mkdir -p "$here/out" && true >"$agreed.$$"; } 2>/dev/null
-    if [ "$(digest_of_sources "$here")" = "$digest" ]; then
-        mv -f -- "$agreed.$$" "$agreed" 2>/dev/null
-        return 0
-    fi
-    rm -f -- "$agreed.$$" "$agreed"
-    return 1
+# is_shipped_of DIGEST: whether the shipped programs are of the sources with this digest.
+is_shipped_of() {
+    [ -x "$shipped" ] && [ -f "$here/release/SOURCES" ] && read -r digest <"$here/release/SOURCES" && [ "$digest" = "$1" ]
 }
 
 # Whether a shipped program runs here: without words it ends with 3. If the C library or the processor is too old, it ends before that.
@@ -66,7 +53,7 @@ progress() {
 # Proves and builds the program; $1 says why no shipped one can be run.
 build() {
     command -v rt >/dev/null 2>&1 || cannot_run "$1, and building it needs the command rt of the Rattle kit"
-    echo "$name: $1, so it is proved and built here; the first time takes about 25 minutes on four processors" >&2
+    echo "$name: $1, so it is proved and built here; the first time takes half an hour or more on four processors" >&2
     mkdir -p "$here/out" && digest=$(digest_of_sources "$here") || cannot_run "no program can be built here, since $here can't be written"
     if ! (cd "$here/crates/$crate" && rt run -- </dev/null 2>&1 >/dev/null) | progress >&2; then
         cannot_run "the program could not be built; 'rt check' in crates/$crate says why"
@@ -75,13 +62,20 @@ build() {
     echo "$name: built" >&2
 }
 
-# Says in program which one to run.
-choose_program() {
+# choose DIGEST says in program which one to run, if there is one of the sources with this digest that runs here.
+choose() {
     reason='no program of these sources is shipped here'
-    if is_of_these_sources; then
+    if is_shipped_of "$1"; then
         ! choose_shipped || return 0
         reason='the shipped program does not run on this machine'
     fi
     program=$built
+    is_built_of "$here" "$crate" "$1"
+}
+
+# Says in program which one to run. The digest that is known serves if there is a program of it; otherwise it is taken anew.
+choose_program() {
+    ! sources=$(known_digest "$here") || ! choose "$sources" || return 0
+    ! choose "$(learn_digest "$here")" || return 0
     is_built "$here" "$crate" || build "$reason"
 }
