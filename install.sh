@@ -98,15 +98,13 @@ completions/rr.fish share/fish/vendor_completions.d/rr.fish 644
 completions/rr-calendars.bash share/bash-completion/completions/rr-calendars 644
 completions/_rr-calendars share/zsh/site-functions/_rr-calendars 644
 completions/rr-calendars.fish share/fish/vendor_completions.d/rr-calendars.fish 644
-docs/MANUAL.md share/doc/rr/MANUAL.md 644
-docs/REFUSALS.md share/doc/rr/REFUSALS.md 644
-docs/CALENDARS.md share/doc/rr/CALENDARS.md 644
-docs/TERMS.md share/doc/rr/TERMS.md 644
-docs/OTHER_PROGRAMS.md share/doc/rr/OTHER_PROGRAMS.md 644
 LICENSE-MIT share/doc/rr/LICENSE-MIT 644
 LICENSE-APACHE share/doc/rr/LICENSE-APACHE 644
-docs/LICENCES.md share/doc/rr/LICENCES.md 644
 END
+    # (all pages, so that their links to one another lead somewhere)
+    for page in "$top"/docs/*.md; do
+        echo "docs/${page##*/} share/doc/rr/${page##*/} 644"
+    done
 }
 
 library_files() {

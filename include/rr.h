@@ -84,7 +84,7 @@ uint32_t rr_clear_answer(const uint8_t *words, size_t words_length, const uint8_
                          size_t others_length, uint8_t *out, size_t out_length, uint64_t *length);
 
 /* A text and its language: "rrule", "vcal", "graph", "list", "canon" or "rscale", with an offset behind it if it has moments in UTC
- * beside local time, as "rrule@+01:00". */
+ * beside local time, as "rrule@+01:00", or of rrule and rscale with the word zone, as "rrule@zone". */
 struct rr_series {
     const char *language;
     const void *text;
@@ -198,7 +198,7 @@ struct rr_report_line {
     struct rr_moment moment; /* after RR_SAID_DIFFERS: the first occurrence that only one of them has */
     const char *refusal;     /* after RR_SAID_REFUSED: why, as "UtcMoment 124" */
     size_t refusal_length;
-    int has_other_zone;      /* the zones have other names: local times are compared, and names of zones are not */
+    int has_other_zone;      /* the zones differ, by their names or as UTC beside local time: local times are compared, and zones are not */
 };
 
 /* Reads this text, and says whether it is there. */

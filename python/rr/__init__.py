@@ -106,7 +106,7 @@ class Plan:
 
 
 class Refused(ValueError):
-    """An operand is refused: which one ('A', 'B' or 'both'), by what name, and where the name has one its place: the number of a line, of
+    """An operand is refused: which one ('A', 'B' or 'both'), by what name, and if the name has one its place: the number of a line, of
     NotSynchronised that of a rule, of BadMember the name of a member. docs/REFUSALS.md says of each name what to do.
 
     >>> try:
@@ -129,7 +129,7 @@ class OutOfMemory(MemoryError):
 
 
 def answer(words: list[str], a: bytes = b"", b: bytes = b"", room: int = _ROOM) -> tuple[int, bytes]:
-    """The program's exit status and what it prints, for the words of its command line and the bytes of the operands. Where the answer has
+    """The program's exit status and what it prints, for the words of its command line and the bytes of the operands. If the answer has
     more bytes than the room, it is computed once more. Bytes of a word that are no text may stand in it as the interpreter has them.
 
     >>> answer(["check", "rrule:a"], b"DTSTART;VALUE=DATE:20240101\\nRRULE:FREQ=WEEKLY\\n")
@@ -180,7 +180,7 @@ def _refused(line: str) -> Refused:
 
 
 def _ask(words: list[str], a: Operand, b: Operand | None = None, room: int = _ROOM) -> tuple[int, str]:
-    """The status and the answer, where it is no refusal. The words end with those of the operands."""
+    """The status and the answer, if it is no refusal. The words end with those of the operands."""
     status, out = answer(words, a.data, b"" if b is None else b.data, room)
     if status == REFUSED:
         raise _refused(out.decode())
@@ -371,7 +371,7 @@ def minus(a: AnySeries, b: AnySeries) -> str:
 
 
 def check(series: AnySeries) -> int:
-    """A number of days after which the endless rules of a series repeat; 1 where there is none.
+    """A number of days after which the endless rules of a series repeat; 1 if there is none.
 
     It is told by the rules' frequencies, intervals and parts, and may be more than the least such number.
 
@@ -382,7 +382,7 @@ def check(series: AnySeries) -> int:
 
 
 def occurrences(series: AnySeries, n: int) -> list[Moment]:
-    """The first n occurrences, or all where there are fewer; n is 1 to 100,000.
+    """The first n occurrences, or all if there are fewer; n is 1 to 100,000.
 
     >>> occurrences("DTSTART:20240229T093000\\nRRULE:FREQ=YEARLY\\n", 2)
     [datetime.datetime(2024, 2, 29, 9, 30), datetime.datetime(2028, 2, 29, 9, 30)]
@@ -394,7 +394,7 @@ def occurrences(series: AnySeries, n: int) -> list[Moment]:
 
 
 def nth(series: AnySeries, n: int) -> Moment | None:
-    """The n-th occurrence, or None where there are fewer; n is 1 to 1,125,899,906,842,624.
+    """The n-th occurrence, or None if there are fewer; n is 1 to 1,125,899,906,842,624.
 
     >>> nth("DTSTART;VALUE=DATE:20240101\\nRRULE:FREQ=WEEKLY\\n", 20_872)
     datetime.date(2424, 1, 1)
@@ -446,7 +446,7 @@ def window(series: AnySeries, start: Moment, end: Moment) -> Iterator[Moment]:
 
 
 def translate(series: AnySeries, language: Literal["rrule", "vcal", "graph"]) -> str:
-    """A text in another language that has exactly the occurrences; refused as NotSayable where none of those looked for has them.
+    """A text in another language that has exactly the occurrences; refused as NotSayable if none of those looked for has them.
 
     >>> translate("DTSTART:20240101T090000\\nRRULE:FREQ=DAILY\\n", "vcal")
     'DTSTART:20240101T090000\\r\\nRRULE:D1 #0\\r\\n'
@@ -471,7 +471,7 @@ def split(series: AnySeries, n: int) -> Plan:
 
 
 def infer(series: AnySeries) -> str:
-    """The first single rule of iCalendar that has the occurrences; refused as NotSayable where none of those looked for has them.
+    """The first single rule of iCalendar that has the occurrences; refused as NotSayable if none of those looked for has them.
 
     >>> infer(Series("2024-01-31\\n2024-03-31\\n2024-05-31\\n", "list"))
     'DTSTART;VALUE=DATE:20240131\\r\\nRRULE:FREQ=MONTHLY;COUNT=3;BYMONTHDAY=31\\r\\n'
@@ -489,7 +489,8 @@ def calendars(
     """What is said of two calendars, as docs/CALENDARS.md has it: each event is found again by its UID. Moments in UTC beside a local start
     are read by the zones of the calendar, and those that no zone turns by the offset, which says how far local time is ahead of UTC. With
     differences the lines of equal events in the same zones are left out. With show only the events of that UID are asked for, and the months
-    from their first difference on are painted; it is said how many differences more there are, and until when. A calendar that can't be read as a whole is Refused, and a UID that neither has is a KeyError.
+    from their first difference on are painted; it is said how many differences more there are, and until when. A calendar that can't be read
+    as a whole is Refused, and a UID that neither has is a KeyError.
 
     >>> board = "BEGIN:VEVENT\\nUID:board\\nDTSTART;VALUE=DATE:20240105\\nRRULE:FREQ=MONTHLY\\nEND:VEVENT\\n"
     >>> lunch = "BEGIN:VEVENT\\nUID:lunch\\nDTSTART:20240105T123000\\nEND:VEVENT\\n"
