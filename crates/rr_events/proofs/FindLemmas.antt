@@ -15,7 +15,8 @@ use Rattle.rr_model.specs.declared.refusal.Refusal.{Refusal}
 use Rattle.rr_model.specs.declared.refusal.Refusal.TheVariants.{BadLine}
 use Rattle.rr_text.specs.Physical.{IsPart}
 use Rattle.rr_events.specs.Cutting.{lines_at, AreEmpty, IsCut}
-use Rattle.rr_events.specs.Events.{events_from, events_of, is_within_event, open_after}
+use Rattle.rr_events.specs.Events.{events_from, events_of}
+use Rattle.rr_ical.specs.Components.{is_within_event, open_after}
 use Rattle.rr_events.specs.Finding.{before, begun_after, lines_in, IsBefore, IsFound, IsFoundAfter, IsNext, IsPlaced, IsStep}
 use Rattle.rr_events.specs.declared.find.Finder.{Finder}
 use Rattle.rr_events.specs.declared.find.Piece.{Piece}

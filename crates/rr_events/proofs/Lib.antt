@@ -2,7 +2,6 @@ pub mod CuttingLemmas
 pub mod PartLemmas
 pub mod LineLemmas
 pub mod EmptyLemmas
-pub mod NameLemmas
 pub mod ParameterLemmas
 pub mod FindLemmas
 pub mod RawLemmas

@@ -14,13 +14,13 @@ use Rattle.rr_model.specs.declared.refusal.Refusal.{Refusal}
 use Rattle.rr_model.specs.declared.refusal.Refusal.TheVariants.{BadLine}
 use Rattle.rr_text.specs.Physical.{EndsWithFeed}
 use Rattle.rr_events.specs.Cutting.{raw_texts, IsCut}
-use Rattle.rr_events.specs.Events.{open_after}
+use Rattle.rr_ical.specs.Components.{open_after}
 use Rattle.rr_events.specs.Finding.{before}
 use Rattle.rr_events.specs.RawLines.{first_line, lines_of, raw_line, raw_lines_at, raw_lines_from, RawLine}
 use Rattle.rr_events.specs.Segments.{cut_by, section_in, sections_from, sections_of, with_section, AreSegments, IsCutAfter, IsCutOff, IsTaken, IsTakenIn, IsWithin, Section, Sections}
-use Rattle.rr_events.specs.Sought.{is_within}
+use Rattle.rr_ical.specs.Sought.{is_within}
 use Rattle.rr_events.specs.declared.find.Piece.{Piece}
-use Rattle.rr_events.specs.declared.names.Sought.{Sought}
+use Rattle.rr_ical.specs.declared.open_names.Sought.{Sought}
 use Rattle.rr_events.specs.declared.segment.Cutter.{Cutter}
 use Rattle.rr_events.specs.declared.segment.Segment.{Segment}
 use Rattle.rr_events.proofs.PartLemmas.{part-before, part-lines, text-lines}

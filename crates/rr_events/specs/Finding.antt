@@ -5,7 +5,8 @@ use Rattle.rr_model.specs.declared.line.Line.{Line}
 use Rattle.rr_model.specs.declared.refusal.Fault.{Fault}
 use Rattle.rr_model.specs.declared.refusal.Fault.TheVariants.{Refused, NoMemory}
 use Rattle.rr_events.specs.Cutting.{lines_at}
-use Rattle.rr_events.specs.Events.{events_of, is_within_event, open_after}
+use Rattle.rr_events.specs.Events.{events_of}
+use Rattle.rr_ical.specs.Components.{is_within_event, open_after}
 use Rattle.rr_events.specs.declared.find.Finder.{Finder}
 use Rattle.rr_events.specs.declared.find.Piece.{Piece}
 

@@ -5,4 +5,3 @@ pub mod Own
 pub mod Parameters
 pub mod RawLines
 pub mod Segments
-pub mod Sought

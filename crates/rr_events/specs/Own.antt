@@ -4,7 +4,7 @@ use Rattle.rr_model.specs.Text.Event.{is_in_event}
 use Rattle.rr_model.specs.Text.UsedLines.{is_named, value_of_line}
 use Rattle.rr_model.specs.declared.line.Line.{Line}
 use Rattle.rr_model.specs.declared.refusal.Refusal.{Refusal}
-use Rattle.rr_events.specs.Events.{open_after}
+use Rattle.rr_ical.specs.Components.{open_after}
 
 -- a line, where it is the event's own, and then the lines that are its own after it
 abbrev pub own_line : Bool → Line → Result (List (List ℕ)) Refusal → (List (List ℕ) → List Line) → List Line

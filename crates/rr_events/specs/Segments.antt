@@ -9,12 +9,12 @@ use Rattle.rr_model.specs.declared.refusal.Fault.{Fault}
 use Rattle.rr_model.specs.declared.refusal.Fault.TheVariants.{Refused, NoMemory}
 use Rattle.rr_model.specs.declared.refusal.Refusal.{Refusal}
 use Rattle.rr_model.specs.declared.refusal.Refusal.TheVariants.{BadLine}
-use Rattle.rr_events.specs.Events.{open_after}
+use Rattle.rr_ical.specs.Components.{open_after}
 use Rattle.rr_events.specs.Finding.{IsBefore}
 use Rattle.rr_events.specs.RawLines.{RawLine, raw_lines_at}
-use Rattle.rr_events.specs.Sought.{is_within}
+use Rattle.rr_ical.specs.Sought.{is_within}
 use Rattle.rr_events.specs.declared.find.Piece.{Piece}
-use Rattle.rr_events.specs.declared.names.Sought.{Sought}
+use Rattle.rr_ical.specs.declared.open_names.Sought.{Sought}
 use Rattle.rr_events.specs.declared.segment.Cutter.{Cutter}
 use Rattle.rr_events.specs.declared.segment.Segment.{Segment}
 

@@ -3,7 +3,7 @@ ghost use Rattle.std.specs.Prelude.{◌≡◌, ◌<◌, ◌≤◌, ◌^◌, [], 
 ghost use Rattle.rr_events.specs.Finding.{IsBefore, IsClosed, IsFound, IsPlaced, IsStep};
 
 use crate::cut::{after_empty_lines, cut_line};
-use crate::names::OpenNames;
+use rr_ical::OpenNames;
 use rr_model::{Fault, Line, NoMemory, Refusal};
 use std::alloc::Global;
 

@@ -2,8 +2,7 @@
 ghost use Rattle.std.specs.Prelude.{◌≡◌, [], map, option_map, IfOk};
 ghost use Rattle.rr_events.specs.Own.{first_named, first_value, own_lines};
 
-use crate::names::OpenNames;
-use rr_ical::{is_named, value_of_line};
+use rr_ical::{OpenNames, is_named, value_of_line};
 use rr_model::{Fault, Line, NoMemory};
 use std::alloc::Global;
 

@@ -5,7 +5,7 @@ ghost use Rattle.rr_events.specs.Segments.{AreSegments, IsCutOff, IsTakenIn, IsW
 
 use crate::cut::cut_line;
 use crate::find::{Piece, before};
-use crate::names::{OpenNames, Sought};
+use rr_ical::{OpenNames, Sought};
 use rr_model::{Fault, Line, LineList, NoMemory, Refusal};
 use std::alloc::Global;
 

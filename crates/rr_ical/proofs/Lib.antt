@@ -9,3 +9,4 @@ pub mod PassLemmas
 pub mod KeptLemmas
 pub mod DateCutLemmas
 pub mod BesideLemmas
+pub mod OpenNameLemmas

@@ -2,3 +2,5 @@ pub mod Kept
 pub mod Listed
 pub mod Steps
 pub mod LineLaws
+pub mod Components
+pub mod Sought

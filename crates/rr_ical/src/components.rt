@@ -1,27 +1,27 @@
-// The components that are open (RFC 5545, section 3.6).
-ghost use Rattle.std.specs.Prelude.{◌≡◌, Result, OnOk};
-ghost use Rattle.rr_model.specs.Text.Event.{Components, no_components, is_event, is_in_event, after_begin, after_end, stop_at_end};
+// The components that are open, of a text that has one event (RFC 5545, section 3.6).
+ghost use Rattle.std.specs.Prelude.{◌≡◌, OnOk};
+ghost use Rattle.rr_model.specs.Text.Event.{Components, no_components, is_in_event, after_begin, after_end, stop_at_end};
 ghost use Rattle.rr_ical.specs.Steps.{Becomes, with_component};
 
-use crate::names::{is_event, is_same_name};
+use crate::names::is_event;
+use crate::open_names::OpenNames;
 use rr_model::{Bytes, Fault, NoMemory, Refusal};
 use std::alloc::Global;
 use std::marker::Model;
 
-/// The open components with the innermost at the end, and whether an event was begun.
+/// The open components, and whether an event was begun.
 #[derive(Drop)]
 pub(crate) struct Nesting {
-    names: Vec<Bytes>,
+    names: OpenNames,
     had_event: bool,
 }
 
 impl Model for Nesting {
-    ghost use Rattle.std.specs.Prelude.{reverse};
     ghost use Rattle.rr_model.specs.Text.Event.{Components};
 
     ghost Value = { Components };
 
-    ghost view = { λ n. record { open_names = reverse n.names.items; had_event = n.had_event } };
+    ghost view = { λ n. record { open_names = n.names; had_event = n.had_event } };
 }
 
 impl Nesting {
@@ -30,7 +30,7 @@ impl Nesting {
         ensures { result ≡ no_components }
     {
         Nesting {
-            names: Vec::new(alloc),
+            names: OpenNames::new(alloc),
             had_event: false,
         }
     }
@@ -39,10 +39,7 @@ impl Nesting {
     pub(crate) fn is_in_event(&self) -> bool
         ensures { result ≡ is_in_event self.now.open_names }
     {
-        match self.names.last() {
-            Some(name) => is_event(name.as_slice()),
-            None => false,
-        }
+        self.names.is_in_event()
     }
 
     /// Opens a component; a second event is refused.
@@ -60,22 +57,16 @@ impl Nesting {
     fn nest(&mut self, name: Bytes, event: bool) -> Result<(), NoMemory>
         ensures { OnOk result (self.new ≡ with_component self.old name event) }
     {
-        self.names.push(name)?;
+        self.names.begin(name)?;
         self.had_event |= event;
         Ok(())
     }
 
-    /// Closes the innermost component, where it has this name.
+    /// Closes the innermost component, if it has this name.
     pub(crate) fn end(&mut self, number: u64, name: &[u8]) -> Result<(), Fault>
         ensures { Becomes (after_end number self.old self.old.open_names name.now) self.new result }
     {
-        match self.names.last() {
-            Some(innermost) if is_same_name(name, innermost.as_slice()) => {
-                self.names.pop();
-                Ok(())
-            }
-            _ => Err(Fault::Refused(Refusal::BadLine(number))),
-        }
+        self.names.end(number, name)
     }
 
     /// The fault of a text that ends here, with `last` physical lines.

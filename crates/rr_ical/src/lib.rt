@@ -12,6 +12,7 @@ mod lines_alone;
 mod lines_beside;
 mod list;
 mod names;
+mod open_names;
 mod passes;
 mod value;
 
@@ -23,5 +24,6 @@ pub use lines_alone::date_value;
 pub use lines_beside::{BesideStart, Setting, date_beside};
 pub use list::read_list;
 pub use names::{is_event, is_named, is_same_name, line_kind};
+pub use open_names::{OpenNames, Sought};
 pub use passes::{ReadEvent, event_of};
 pub use value::{after_colon, name_and_rest, value_of_line};

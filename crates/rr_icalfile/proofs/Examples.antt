@@ -6,6 +6,7 @@ use Rattle.rr_model.specs.Text.UsedLines as U
 use Rattle.rr_model.specs.declared.line.Line.{Line}
 use Rattle.rr_model.specs.declared.refusal.Refusal.{Refusal}
 use Rattle.rr_model.specs.declared.refusal.Refusal.TheVariants.{BadLine}
+use Rattle.rr_ical.specs.Components as C
 use Rattle.rr_events.specs.Events as E
 use Rattle.rr_events.specs.Events.{events_of}
 use Rattle.rr_icalfile.specs.Keys.{key_of}
@@ -27,14 +28,14 @@ keys_in (Ok events) = map key_of events
 keys_in (Err refusal) = []
 
 numbers : numbers_in (events_of text) ≡ (2 ∷ 4 ∷ 5 ∷ 6 ∷ 7 ∷ 8 ∷ []) ∷ (9 ∷ 10 ∷ []) ∷ []
-unfolding numbers_in E.events_of E.open_after L.unfolded_lines L.physical_lines U.line_kind U.value_of_line text
+unfolding numbers_in E.events_of C.open_after L.unfolded_lines L.physical_lines U.line_kind U.value_of_line text
 numbers = refl
 
 keys : keys_in (events_of text) ≡ key.Uid (codes "a") ∷ key.Line 9 ∷ []
-unfolding keys_in E.events_of E.open_after L.unfolded_lines L.physical_lines U.line_kind U.value_of_line text
+unfolding keys_in E.events_of C.open_after L.unfolded_lines L.physical_lines U.line_kind U.value_of_line text
 keys = refl
 
 -- a text that was cut off is refused as a whole
 cut_off : events_of (codes "BEGIN:VCALENDAR\nBEGIN:VEVENT\nEND:VEVENT\n") ≡ Err (BadLine 3)
-unfolding E.events_of E.open_after L.unfolded_lines L.physical_lines U.line_kind U.value_of_line text
+unfolding E.events_of C.open_after L.unfolded_lines L.physical_lines U.line_kind U.value_of_line text
 cut_off = refl

@@ -11,10 +11,10 @@ use Rattle.rr_model.specs.declared.line.Line.{Line}
 use Rattle.rr_model.specs.declared.refusal.Refusal.{Refusal}
 use Rattle.rr_model.specs.declared.used.Scan.{Scan}
 use Rattle.rr_events.specs.Cutting.{full_lines, has_text}
-use Rattle.rr_events.specs.Events.{open_after}
-use Rattle.rr_events.specs.Own.{first_named, first_value, own_line, own_lines, value_or_empty}
+use Rattle.rr_ical.specs.Components.{open_after}
+use Rattle.rr_events.specs.Own.{first_named, own_line, own_lines, value_or_empty}
 use Rattle.rr_icalfile.specs.Event.{event_by, event_of, is_cancelled, is_component_line, is_unread, recurrence_of, recurrence_on, used_in}
-use Rattle.rr_icalfile.specs.Keys.{first_line, key_by, key_of}
+use Rattle.rr_icalfile.specs.Keys.{first_line}
 use Rattle.rr_icalfile.specs.Zones.{date_zones, event_zones, event_zones_by, start_zone, zone_on}
 
 -- ---- one empty line
@@ -24,13 +24,13 @@ none_left [] h = refl
 none_left (b ∷ bs) h = absurd (cc)
 
 -- a line without a byte
-abbrev empty : ℕ → Line
+abbrev pub empty : ℕ → Line
 empty number = record { number = number; text = [] }
 
 is_empty : (line : Line) → has_text line ≡ false → line ≡ empty line.number
 is_empty line h = ap (λ (t : List ℕ). record { number = line.number; text = t }) (none_left line.text h)
 
-empty-open : (names : List (List ℕ)) (number : ℕ) → open_after names (empty number) ≡ Ok names
+pub empty-open : (names : List (List ℕ)) (number : ℕ) → open_after names (empty number) ≡ Ok names
 unfolding open_after line_kind
 empty-open names number = refl
 
@@ -217,11 +217,3 @@ event_full lines =
     ∙ ap (λ (b : Bool). event_by (first_line lines) (used_in b full) less) (unread-less own)
     ∙ ap (λ (s : Scan). event_by (first_line lines) s less) (used_full (is_unread own) lines)
     ∙ event-less (first_line lines) (used_in (is_unread own) lines) own
-
-pub key_full : (lines : List Line) → key_of (full_lines lines) ≡ key_of lines
-key_full lines =
-    let own = own_lines [] lines in
-    ap (λ (ls : List Line). key_by (first_line (full_lines lines)) (first_value (codes "UID") ls)) (own-full lines)
-    ∙ ap (λ (n : ℕ). key_by n (first_value (codes "UID") (filter has_text own))) (first_full lines)
-    ∙ ap (λ (line : Option Line). key_by (first_line lines) (value_or_empty (option_and_then (λ (l : Line). value_of_line l.text) line)))
-    (first-less (codes "UID") refl own)

@@ -1,4 +1,5 @@
 mod FullLemmas
+mod KeyLemmas
 mod EditStepLemmas
 mod EditedLemmas
 mod OccursLemmas

@@ -86,8 +86,8 @@ fn states_moment(text: &[u8]) -> bool
     }
 }
 
-// The value of a line, empty if it has none.
-fn value_on(text: &[u8]) -> &[u8]
+/// The value of a line, empty if it has none.
+pub(crate) fn value_on(text: &[u8]) -> &[u8]
     ensures { result.now ≡ value_on text.now }
 {
     value_of_line(text).unwrap_or(b"")

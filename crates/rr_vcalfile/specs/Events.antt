@@ -9,7 +9,7 @@ use Rattle.rr_model.specs.declared.refusal.Refusal.TheVariants as refusal
 use Rattle.rr_events.specs.Cutting.{lines_at}
 use Rattle.rr_events.specs.RawLines.{RawLine, bytes_of}
 use Rattle.rr_events.specs.Segments.{Section, Sections, sections_of}
-use Rattle.rr_events.specs.declared.names.Sought.TheVariants.{Events}
+use Rattle.rr_ical.specs.declared.open_names.Sought.TheVariants.{Events}
 use Rattle.rr_seam.specs.declared.file.FileRefusal.{FileRefusal}
 use Rattle.rr_seam.specs.declared.file.FileRefusal.TheVariants.{TooLong, NoEvents, BadLine}
 use Rattle.rr_seam.specs.declared.file.TheConstants.{MAX_FILE}

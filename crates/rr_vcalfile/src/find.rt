@@ -1,13 +1,14 @@
 // The events of a vCalendar text (vCalendar 1.0, section 2.1).
 ghost use Rattle.std.specs.Prelude.{◌≡◌, ◌<◌, ◌++◌, ◌∷◌, ◌^◌, [], All, length, map, IfOk, OnOk};
 ghost use Rattle.rr_events.specs.Segments.{section_in, sections_of};
-ghost use Rattle.rr_events.specs.declared.names.Sought.TheVariants.{Events};
+ghost use Rattle.rr_ical.specs.declared.open_names.Sought.TheVariants.{Events};
 ghost use Rattle.rr_vcalfile.specs.Events.{events_in, events_or_refusal, text_events};
 ghost use Rattle.rr_vcalfile.specs.Parts.{AnswersEvents, IsNumbered, component_fault, lines_in};
 
 use crate::begin::has_begin;
 use crate::part::Part;
-use rr_events::{Piece, Segment, Sought, segments};
+use rr_events::{Piece, Segment, segments};
+use rr_ical::Sought;
 use rr_model::{Fault, LineList, NoMemory, Refusal};
 use rr_seam::{FileFault, FileRefusal};
 use rr_text::lines_from;

@@ -2,8 +2,8 @@ use Rattle.std.proofs.Common.{reverse, ap, ◌∙◌, ℕ}
 use Rattle.std.specs.Prelude.{nat_lt}
 use Rattle.std.specs.List.{list_any}
 use Rattle.rr_model.specs.Text.Event.{is_event}
-use Rattle.rr_events.proofs.NameLemmas.{any-counted}
-use Rattle.rr_events.proofs.names.OpenNames.is_within_event.Goals as goal
+use Rattle.rr_ical.proofs.OpenNameLemmas.{any-counted}
+use Rattle.rr_ical.proofs.open_names.OpenNames.is_within_event.Goals as goal
 
 pub returns : goal.returns
 returns c =

@@ -1,12 +1,13 @@
-// The components that are open (RFC 5545, section 3.6).
+// The stack of the components that are open (RFC 5545, section 3.6).
 ghost use Rattle.std.specs.Prelude.{◌≡◌, [], ◌∷◌, drop, cond, OnOk};
 ghost use Rattle.rr_model.specs.Rule.Validity.{is_absent};
 ghost use Rattle.rr_model.specs.Text.Event.{is_in_event};
 ghost use Rattle.rr_ical.specs.Steps.{Becomes};
-ghost use Rattle.rr_events.specs.Events.{closed_by, is_within_event, open_after};
-ghost use Rattle.rr_events.specs.Sought.{is_observance, is_within, is_zone};
+ghost use Rattle.rr_ical.specs.Components.{closed_by, is_within_event, open_after};
+ghost use Rattle.rr_ical.specs.Sought.{is_observance, is_within, is_zone};
 
-use rr_ical::{is_event, is_same_name, line_kind, value_of_line};
+use crate::names::{is_event, is_same_name, line_kind};
+use crate::value::value_of_line;
 use rr_model::{Bytes, Fault, Line, LineKind, NoMemory, Refusal};
 use std::alloc::Global;
 use std::marker::Model;
@@ -56,7 +57,7 @@ impl Model for OpenNames {
     ghost use Rattle.std.specs.Prelude.{◌≡◌, ℕ, List, reverse};
     ghost use Rattle.std.specs.List.{count_by};
     ghost use Rattle.rr_model.specs.Text.Event.{is_event};
-    ghost use Rattle.rr_events.specs.Sought.{is_observance, is_zone};
+    ghost use Rattle.rr_ical.specs.Sought.{is_observance, is_zone};
 
     ghost Value = { List (List ℕ) };
 
@@ -115,8 +116,8 @@ impl OpenNames {
         }
     }
 
-    // A component is opened.
-    fn begin(&mut self, name: Bytes) -> Result<(), NoMemory>
+    /// A component of this name is opened.
+    pub(crate) fn begin(&mut self, name: Bytes) -> Result<(), NoMemory>
         ensures { OnOk result (self.new ≡ name ∷ self.old) }
     {
         let event = number_if(is_event(name.as_slice()));
@@ -142,8 +143,8 @@ impl OpenNames {
         self.observances -= number_if(is_observance(name));
     }
 
-    // The innermost component is closed, where it has this name.
-    fn end(&mut self, number: u64, name: &[u8]) -> Result<(), Fault>
+    /// The innermost component is closed, if it has this name; otherwise the line of this number is refused.
+    pub(crate) fn end(&mut self, number: u64, name: &[u8]) -> Result<(), Fault>
         ensures { Becomes (closed_by number self.old name.now) self.new result }
     {
         match self.names.last() {
@@ -157,7 +158,7 @@ impl OpenNames {
 
     /// One line more. `BadLine` comes for a BEGIN or END without a value, and for an END that does not close the innermost
     /// component.
-    #[tactic(auto, unfolding(crate::specs::Events::open_after))]
+    #[tactic(auto, unfolding(crate::specs::Components::open_after))]
     pub fn step(&mut self, alloc: Global, line: &Line) -> Result<(), Fault>
         ensures { Becomes (open_after self.old line.now) self.new result }
     {

@@ -3,10 +3,10 @@ use Rattle.std.specs.Prelude.{◌||◌}
 use Rattle.std.specs.List.{list_any}
 use Rattle.std.proofs.lemmas.Bool.Decides.{nat_tests}
 use Rattle.rr_model.specs.Text.Event.{is_event}
-use Rattle.rr_events.specs.Sought.{is_event_or_zone, is_observance, is_within, is_zone}
-use Rattle.rr_events.specs.declared.names.Sought.{Sought}
-use Rattle.rr_events.proofs.NameLemmas.{any-counted, any-either}
-use Rattle.rr_events.proofs.names.OpenNames.is_within.Goals as goal
+use Rattle.rr_ical.specs.Sought.{is_event_or_zone, is_observance, is_within, is_zone}
+use Rattle.rr_ical.specs.declared.open_names.Sought.{Sought}
+use Rattle.rr_ical.proofs.OpenNameLemmas.{any-counted, any-either}
+use Rattle.rr_ical.proofs.open_names.OpenNames.is_within.Goals as goal
 
 pub returns-in-Events : goal.returns-in-Events
 returns-in-Events c =

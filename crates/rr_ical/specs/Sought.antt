@@ -3,8 +3,8 @@ use Rattle.std.specs.Prelude.{ℕ, Bool, ◌||◌, List, codes}
 use Rattle.std.specs.List.{list_any}
 use Rattle.std.specs.Str.{str_eq_ignore_ascii_case}
 use Rattle.rr_model.specs.Text.Event.{is_event}
-use Rattle.rr_events.specs.declared.names.Sought.{Sought}
-use Rattle.rr_events.specs.declared.names.Sought.TheVariants.{Events, EventsAndZones, Observances}
+use Rattle.rr_ical.specs.declared.open_names.Sought.{Sought}
+use Rattle.rr_ical.specs.declared.open_names.Sought.TheVariants.{Events, EventsAndZones, Observances}
 
 -- names of components compare in either case
 abbrev pub is_zone : List ℕ → Bool
