@@ -1,0 +1,4 @@
+pub mod Between
+pub mod Days
+pub mod Walks
+pub mod Zones
