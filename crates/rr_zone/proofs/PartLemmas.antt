@@ -9,13 +9,13 @@ use Rattle.rr_model.specs.Text.RuleValues.{◌>>=◌}
 use Rattle.rr_model.specs.declared.line.Line.{Line}
 use Rattle.rr_model.specs.declared.refusal.Refusal.{Refusal}
 use Rattle.rr_model.specs.declared.refusal.Refusal.TheVariants.{BadLine}
-use Rattle.rr_events.specs.Events.{open_after}
+use Rattle.rr_ical.specs.Components.{open_after}
 use Rattle.rr_events.specs.RawLines.{RawLine, lines_of}
 use Rattle.rr_events.specs.Segments.{Section, Sections, cut_by, section_in, sections_from, sections_of, with_section}
-use Rattle.rr_events.specs.Sought.{is_within}
+use Rattle.rr_ical.specs.Sought.{is_within}
 use Rattle.rr_events.specs.declared.find.Piece.{Piece}
-use Rattle.rr_events.specs.declared.names.Sought.{Sought}
-use Rattle.rr_events.specs.declared.names.Sought.TheVariants.{Observances}
+use Rattle.rr_ical.specs.declared.open_names.Sought.{Sought}
+use Rattle.rr_ical.specs.declared.open_names.Sought.TheVariants.{Observances}
 use Rattle.rr_events.specs.declared.segment.Segment.{Segment}
 use Rattle.rr_zone.specs.Zones.{ReadZone, are_same, first_number, have_same_texts, observance_on, observances_of, raw_lines_in, some_observance, with_observance, zone_by, zone_of, zone_of_all}
 use Rattle.rr_zone.specs.declared.observance.Observance.{Observance}

@@ -7,7 +7,7 @@ use Rattle.rr_model.specs.Text.Lines.{begins_blank, physical_lines}
 use Rattle.rr_model.specs.declared.line.Line.{Line}
 use Rattle.rr_model.specs.declared.refusal.Refusal.{Refusal}
 use Rattle.rr_events.specs.Cutting.{raw_texts, IsCut}
-use Rattle.rr_events.specs.Events.{open_after}
+use Rattle.rr_ical.specs.Components.{open_after}
 use Rattle.rr_events.specs.Finding.{before}
 use Rattle.rr_events.specs.RawLines.{RawLine, bytes_of, raw_line, raw_lines_at, raw_lines_from}
 use Rattle.rr_events.specs.declared.find.Piece.{Piece}

@@ -14,7 +14,7 @@ use Rattle.rr_model.specs.declared.kind.Kind.TheVariants.{Moments}
 use Rattle.rr_model.specs.declared.stamp.Stamp.{Stamp}
 use Rattle.rr_events.specs.Finding.{before}
 use Rattle.rr_events.specs.Segments.{Section, Sections, sections_of}
-use Rattle.rr_events.specs.declared.names.Sought.TheVariants.{EventsAndZones}
+use Rattle.rr_ical.specs.declared.open_names.Sought.TheVariants.{EventsAndZones}
 use Rattle.rr_zone.specs.Lines.{dates_line}
 use Rattle.rr_zone.specs.Local.{has_zone, local_of_sections, local_parts, local_text, mentions_zone, or_itself}
 use Rattle.rr_zone.specs.Parts.{PartLines, events_in, part_of, zones_in}

@@ -6,7 +6,7 @@ use Rattle.rr_model.specs.declared.line.Line.{Line}
 use Rattle.rr_model.specs.declared.refusal.Fault.{Fault}
 use Rattle.rr_model.specs.declared.refusal.Fault.TheVariants.{Refused, NoMemory}
 use Rattle.rr_model.specs.declared.refusal.Refusal.{Refusal}
-use Rattle.rr_events.specs.Events.{open_after}
+use Rattle.rr_ical.specs.Components.{open_after}
 use Rattle.rr_events.specs.RawLines.{RawLine, bytes_of}
 use Rattle.rr_zone.specs.Lines.{local_line}
 use Rattle.rr_zone.specs.declared.clock.LocalTime.{LocalTime}

@@ -7,7 +7,7 @@ use Rattle.rr_model.specs.Text.Rules.{split_once}
 use Rattle.rr_model.specs.Text.UsedLines.{trim}
 use Rattle.rr_model.specs.declared.stamp.Stamp.{Stamp}
 use Rattle.rr_events.specs.Segments.{Section, sections_of}
-use Rattle.rr_events.specs.declared.names.Sought.TheVariants.{EventsAndZones}
+use Rattle.rr_ical.specs.declared.open_names.Sought.TheVariants.{EventsAndZones}
 use Rattle.rr_zone.specs.Lines.{dates_line}
 use Rattle.rr_zone.specs.Local.{has_zone, in_local_time}
 use Rattle.rr_zone.specs.Parts.{events_in, part_of, zones_in}

@@ -3,7 +3,7 @@ use Rattle.std.specs.Prelude.{ℕ, Bool, not, if◌then◌else◌, List, [], ◌
 use Rattle.rr_model.specs.Text.Lines.{without_mark}
 use Rattle.rr_events.specs.RawLines.{RawLine, bytes_of}
 use Rattle.rr_events.specs.Segments.{Sections, sections_of}
-use Rattle.rr_events.specs.declared.names.Sought.TheVariants.{EventsAndZones}
+use Rattle.rr_ical.specs.declared.open_names.Sought.TheVariants.{EventsAndZones}
 use Rattle.rr_zone.specs.Clocks.{local_time}
 use Rattle.rr_zone.specs.Events.{turning_zone}
 use Rattle.rr_zone.specs.Parts.{PartLines, events_in, part_of, zones_in}

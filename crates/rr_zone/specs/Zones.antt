@@ -6,7 +6,7 @@ use Rattle.rr_events.specs.Own.{first_value}
 use Rattle.rr_events.specs.RawLines.{RawLine, lines_of, raw_lines_at}
 use Rattle.rr_events.specs.Segments.{Section, Sections, sections_from}
 use Rattle.rr_events.specs.declared.find.Piece.{Piece}
-use Rattle.rr_events.specs.declared.names.Sought.TheVariants.{Observances}
+use Rattle.rr_ical.specs.declared.open_names.Sought.TheVariants.{Observances}
 use Rattle.rr_zone.specs.Observances.{observance_of}
 use Rattle.rr_zone.specs.declared.observance.Observance.{Observance}
 use Rattle.rr_zone.specs.declared.zone.ZoneFault.{ZoneFault}

@@ -27,7 +27,7 @@ pub(crate) enum LocalTime {
 
 /// An onset of an observance.
 #[derive(Clone, Copy)]
-pub(crate) struct Onset {
+pub struct Onset {
     /// The moment of UTC.
     pub at: i64,
     /// Local time less UTC before it, in seconds.
@@ -38,7 +38,7 @@ pub(crate) struct Onset {
 
 /// The onsets of an observance up to a day.
 #[derive(Drop)]
-pub(crate) struct Table {
+pub struct Table {
     /// The onsets as moments of UTC, rising.
     pub onsets: Dates,
     /// The first of its start and its further dates, as a moment of UTC.
@@ -139,8 +139,8 @@ fn last_of_all(tables: &[Table], at: i64) -> Option<Onset>
     last
 }
 
-// The first onset of all observances.
-fn first_of_all(tables: &[Table]) -> Option<Onset>
+/// The first onset of all observances.
+pub fn first_of_all(tables: &[Table]) -> Option<Onset>
     ensures { result ≡ first_of None tables.now }
 {
     let mut first = None;

@@ -18,8 +18,12 @@ mod unread;
 mod value;
 mod zone;
 
+pub use clock::{Onset, Table, first_of_all};
 pub use laws::{one_offset_is_fixed, tables_tell};
 pub use local::local_text;
+pub use observance::Observance;
+pub use onsets::tables_of;
+pub use part::begins_event;
 pub use text_laws::{other_dates_stay, other_rules_stay, text_stays};
 pub use unread::{UnreadZone, unread_zones};
-pub use zone::ZoneFault;
+pub use zone::{Zone, ZoneFault, zone_in};

@@ -16,7 +16,7 @@ use std::alloc::Global;
 
 /// When an observance begins, again and again, and how far local time is ahead of UTC before and from then on.
 #[derive(Drop)]
-pub(crate) struct Observance {
+pub struct Observance {
     /// Its onsets, in local time as it was before them.
     pub series: Series,
     /// Local time less UTC before an onset, in seconds.

@@ -144,11 +144,7 @@ fn table_of(alloc: Global, observance: &Observance, last: i64) -> Result<Table, 
 }
 
 /// The onsets of a zone, observance by observance, up to a day.
-pub(crate) fn tables_of(
-    alloc: Global,
-    zone: &[Observance],
-    last: i64,
-) -> Result<Vec<Table>, NoMemory>
+pub fn tables_of(alloc: Global, zone: &[Observance], last: i64) -> Result<Vec<Table>, NoMemory>
     requires sound { All IsSoundObservance zone.now }
     requires last { IsLastDay last }
     ensures { IfOk result (λ tables. AreListed zone.now tables.items last) }

@@ -40,8 +40,8 @@ fn value_or_empty(line: &Line) -> &[u8]
     value_of_line(line.text.as_slice()).unwrap_or(b"")
 }
 
-// Whether the component that a piece begins is an event.
-fn begins_event(alloc: Global, piece: Piece) -> Result<bool, NoMemory>
+/// Whether the component that a piece begins is an event.
+pub fn begins_event(alloc: Global, piece: Piece) -> Result<bool, NoMemory>
     requires { IsNumbered piece }
     ensures { IfOk result (λ is. is ≡ is_event (begun_name (raw_lines_in piece.entry))) }
 {

@@ -11,7 +11,8 @@ ghost use Rattle.rr_zone.specs.Clocks.{local_time};
 
 use crate::clock::Clock;
 use crate::line::{before, push_line};
-use rr_events::{Cut, OpenNames, Piece, cut_line};
+use rr_events::{Cut, Piece, cut_line};
+use rr_ical::OpenNames;
 use rr_model::{Fault, Line, NoMemory};
 use std::alloc::Global;
 

@@ -9,8 +9,8 @@ ghost use Rattle.rr_zone.specs.Observances.{IsSoundObservance};
 ghost use Rattle.rr_zone.specs.Zones.{IsNumbered, are_same, first_number, has_name, have_same_texts, observance_on, observances_of, raw_lines_in, some_observance, zone_named, zone_of};
 
 use crate::observance::{Observance, read_observance};
-use rr_events::{Piece, Segment, Sought, cut_line, piece_lines, segments};
-use rr_ical::{is_named, value_of_line};
+use rr_events::{Piece, Segment, cut_line, piece_lines, segments};
+use rr_ical::{Sought, is_named, value_of_line};
 use rr_model::{Fault, Line, NoMemory};
 use std::alloc::Global;
 use std::marker::Model;
@@ -28,7 +28,7 @@ pub enum ZoneFault {
 
 /// A time zone: its observances.
 #[derive(Drop)]
-pub(crate) struct Zone {
+pub struct Zone {
     observances: Vec<Observance>,
 }
 
@@ -65,7 +65,7 @@ impl Zone {
     }
 
     /// The observances, in the order of the text.
-    pub(crate) fn as_slice(&self) -> &[Observance]
+    pub fn as_slice(&self) -> &[Observance]
         ensures value { result.now ≡ self.now }
         ensures sound { All IsSoundObservance result.now }
     {
@@ -216,7 +216,7 @@ fn all_named<'a>(
 }
 
 /// The zone of this name among the VTIMEZONEs of a text: the one of this name, or several whose texts are the same line by line.
-pub(crate) fn zone_in(
+pub fn zone_in(
     alloc: Global,
     zones: &[Piece],
     name: &[u8],

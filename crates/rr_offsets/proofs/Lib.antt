@@ -1,0 +1,10 @@
+mod Examples
+mod LastingLemmas
+mod ListLemmas
+mod OffsetsLemmas
+mod PastLemmas
+mod RepeatLemmas
+mod SearchLemmas
+mod SoundLemmas
+mod StepLemmas
+mod TableLemmas

@@ -1,0 +1,5 @@
+pub mod Listing
+pub mod Meanings
+pub mod Offsets
+pub mod Past
+pub mod Steady
