@@ -1,13 +1,13 @@
 -- The counts of a report, field by field.
 use Rattle.std.proofs.Common.{◌≡◌, ℕ, List, length}
 use Rattle.rr_model.specs.declared.verdict.Side.TheVariants.{A, B}
-use Rattle.rr_trip.specs.Counts.{count_said, counts_of, differs, has_other_zone, is_equal, is_only, is_refused}
+use Rattle.rr_trip.specs.Counts.{count_said, counts_of, differs, is_unsure, is_equal, is_only, is_refused}
 use Rattle.rr_trip.specs.declared.report.Counts.{Counts}
 use Rattle.rr_trip.specs.declared.report.ReportLine.{ReportLine}
 
 pub counts-same : (lines : List ReportLine) (events equal differ only_a only_b refused zone : ℕ) → events ≡ length lines → equal ≡ count_said is_equal lines
     → differ ≡ count_said differs lines → only_a ≡ count_said (is_only A) lines → only_b ≡ count_said (is_only B) lines → refused ≡ count_said is_refused lines
-    → zone ≡ count_said has_other_zone lines
+    → zone ≡ count_said is_unsure lines
     → ◌≡◌ {A = Counts} (record { events = events; equal = equal; differs = differ; only_a = only_a; only_b = only_b; refused = refused; zone = zone })
     (counts_of lines)
 counts-same lines events equal differ only_a only_b refused zone e1 e2 e3 e4 e5 e6 e7 =

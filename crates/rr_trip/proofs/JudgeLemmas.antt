@@ -36,12 +36,13 @@ module _ (series checked : Series) (same : checked ≡ series) (sound : first_re
       rw sound (inl ((refl, long), ap Some h.0))
 
   -- its days are worked out
-  pub folded : (sketch : Sketch) → IsValidSeries series → StandsFor sketch (Occurs checked) → sketch.period ≡ series_cycle checked
+  pub folded : (sketch : Sketch) → IsValidSeries series → StandsFor sketch (Occurs checked) → sketch.kind ≡ checked.kind → sketch.period ≡ series_cycle checked
       → IsLimitRefusal all_limits checked None → IsFoldOf series sketch
-  folded sketch valid stands period judged = record {
+  folded sketch valid stands kind period judged = record {
     unrefused = rw sound (subst (λ (s : Series). IsLimitRefusal all_limits s None) same judged);
     from_year_one = λ k t h. occurs_from_year_one series k t valid h;
     stands = subst (λ (s : Series). StandsFor sketch (Occurs s)) same stands;
+    kind = subst (λ (s : Series). sketch.kind ≡ s.kind) same kind;
     period = subst (λ (s : Series). sketch.period ≡ series_cycle s) same period;
   }
 

@@ -1,5 +1,8 @@
+mod Examples
 mod JudgeLemmas
 mod SaidLemmas
+mod ZoneLemmas
+mod KnownLemmas
 mod EntryLemmas
 mod RunLemmas
 mod CountLemmas

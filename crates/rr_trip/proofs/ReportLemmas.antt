@@ -16,8 +16,8 @@ use Rattle.rr_model.specs.declared.verdict.Side.TheVariants.{A, B}
 use Rattle.rr_trip.specs.Entries.{IsSortedOf, entries_from, entries_of, has_key, indexes_in, is_of_a}
 use Rattle.rr_seam.specs.Keys.{is_same_key, key_cmp}
 use Rattle.rr_trip.specs.Report.{AreLinesOf, IsLineOf, IsReport, IsRunAt, IsRunCount, after_a, front_of_a, indexes_from, keys_of, stated_at, stated_in}
-use Rattle.rr_seam.specs.Stated.{Calendar}
 use Rattle.rr_trip.specs.Said.{IsSaid}
+use Rattle.rr_trip.specs.Zoned.{ZonedCalendar}
 use Rattle.rr_trip.specs.declared.entry.Entry.{Entry}
 use Rattle.rr_seam.specs.declared.key.Key.{Key}
 use Rattle.rr_seam.specs.declared.key.Key.TheVariants as key
@@ -100,10 +100,10 @@ abbrev line_key : ReportLine → Key
 line_key line = line.key
 
 -- each key of entries has one line, which says what is so of the entries with its key, in their order
-abbrev HasEntryLines : Calendar → Calendar → List Entry → List ReportLine → Type 0
+abbrev HasEntryLines : ZonedCalendar → ZonedCalendar → List Entry → List ReportLine → Type 0
 HasEntryLines a b entries lines = HasLines entry_key key_cmp key_cmp_total line_key (IsLineOf a b) entries lines
 
-next_line : (a b : Calendar) (first : Entry) (more run : List Entry) (line : ReportLine) (lines : List ReportLine)
+next_line : (a b : ZonedCalendar) (first : Entry) (more run : List Entry) (line : ReportLine) (lines : List ReportLine)
     → run ≡ take_while (has_key first.key) (first ∷ more) → Ascends entry_key key_cmp key_cmp_total (first ∷ more)
     → IsLineOf a b first.key run line
     → (Ascends entry_key key_cmp key_cmp_total (drop (length run) (first ∷ more)) → HasEntryLines a b (drop (length run) (first ∷ more)) lines)
@@ -116,7 +116,7 @@ next_line a b first more run line lines run_is up is lined =
     (subst (λ ys. IsLineOf a b k ys line) run_is is)
     (subst (λ ys. HasEntryLines a b ys lines) at (lined (subst (Ascends entry_key key_cmp key_cmp_total) (sym at) fr.ascends)))
 
-have_lines : (a b : Calendar) (entries : List Entry) (lines : List ReportLine) → Ascends entry_key key_cmp key_cmp_total entries
+have_lines : (a b : ZonedCalendar) (entries : List Entry) (lines : List ReportLine) → Ascends entry_key key_cmp key_cmp_total entries
     → AreLinesOf a b entries lines → HasEntryLines a b entries lines
 have_lines a b entries lines up AreLinesOf.none = HasLines-none entry_key key_cmp key_cmp_total line_key (IsLineOf a b)
 have_lines a b entries lines up (AreLinesOf.next _ run first line more_lines at is more) =
@@ -133,11 +133,11 @@ pub whole_rest : (start : ℕ) (entries : List Entry) → take (length entries -
 whole_rest start entries = subst (λ n. take n (drop start entries) ≡ drop start entries) (length-drop start entries) (take-length (drop start entries))
 
 -- the lines so far are those of the entries before this place
-pub record IsUpTo (a b : Calendar) (entries : List Entry) (lines : List ReportLine) (start : ℕ) : Type 0 where
+pub record IsUpTo (a b : ZonedCalendar) (entries : List Entry) (lines : List ReportLine) (start : ℕ) : Type 0 where
   pub joins : (more : List ReportLine) → AreLinesOf a b (drop start entries) more → AreLinesOf a b entries (lines ++ more)
   pub within : start ≤ length entries
 
-pub IsUpTo-start : (a b : Calendar) (entries : List Entry) (lines : List ReportLine) → lines ≡ [] → IsUpTo a b entries lines 0
+pub IsUpTo-start : (a b : ZonedCalendar) (entries : List Entry) (lines : List ReportLine) → lines ≡ [] → IsUpTo a b entries lines 0
 IsUpTo-start a b entries lines none = record {
   joins = λ more are. subst (λ ls. AreLinesOf a b entries (ls ++ more)) (sym none) are;
   within = omega arith;
@@ -153,7 +153,7 @@ run_length entries first run at =
     let t = length-take (prefix_len (has_key first.key) entries) entries in
     (omega (arith, ap length r), omega (arith, ap length at.run_is, t))
 
-pub IsUpTo-next : (a b : Calendar) (entries : List Entry) (lines : List ReportLine) (start : ℕ) (first : Entry) (run : List Entry) (line : ReportLine)
+pub IsUpTo-next : (a b : ZonedCalendar) (entries : List Entry) (lines : List ReportLine) (start : ℕ) (first : Entry) (run : List Entry) (line : ReportLine)
     → IsRunAt (drop start entries) first run → IsLineOf a b first.key run line → IsUpTo a b entries lines start
     → IsUpTo a b entries (lines ++ line ∷ []) (start + length run)
 IsUpTo-next a b entries lines start first run line at is so_far = record {
@@ -163,7 +163,7 @@ IsUpTo-next a b entries lines start first run line at is so_far = record {
   within = omega (arith, so_far.within, run_length (drop start entries) first run at, length-drop start entries);
 }
 
-pub IsUpTo-end : (a b : Calendar) (entries : List Entry) (lines : List ReportLine) (start : ℕ) → IsUpTo a b entries lines start
+pub IsUpTo-end : (a b : ZonedCalendar) (entries : List Entry) (lines : List ReportLine) (start : ℕ) → IsUpTo a b entries lines start
     → drop start entries ≡ [] → AreLinesOf a b entries lines
 IsUpTo-end a b entries lines start so_far none =
     subst (AreLinesOf a b entries) (append-nil lines) (so_far.joins [] (subst (λ es. AreLinesOf a b es []) (sym none) AreLinesOf.none))
@@ -235,7 +235,7 @@ after_is : (xs ys : List Entry) → All (λ x. is_of_a x ≡ true) xs → All (�
 after_is xs ys in_a in_b = ap (λ zs. drop (length zs) (xs ++ ys)) (front_is xs ys in_a in_b) ∙ drop_front xs ys
 
 -- the entries of a key are the events with it in each calendar
-module _ (a b : Calendar) (k : Key) where
+module _ (a b : ZonedCalendar) (k : Key) where
   abbrev test : Key → Bool
   test j = is_same_key j k
 
@@ -262,12 +262,12 @@ module _ (a b : Calendar) (k : Key) where
       ∙ ap indexes_in (after_is of_a of_b in_a in_b) ∙ kept_indexes test B 0 b.keys
 
 -- what is said of the entries of a key is said of the events with it in each calendar
-said_of_keys : (a b : Calendar) (line : ReportLine) → IsLineOf a b line.key (filter (has_key line.key) (entries_of a.keys b.keys)) line
-    → IsSaid (stated_at a line.key) (stated_at b line.key) line.said
+said_of_keys : (a b : ZonedCalendar) (line : ReportLine) → IsLineOf a b line.key (filter (has_key line.key) (entries_of a.keys b.keys)) line
+    → IsSaid a.means b.means (stated_at a line.key) (stated_at b line.key) line.said
 said_of_keys a b line is =
     let k = line.key in
-    subst (λ is'. IsSaid (stated_in a.stated is') (stated_at b k) line.said) (front_indexes a b k)
-    (subst (λ is'. IsSaid (stated_in a.stated (indexes_in (front_of_a (filter (has_key k) (entries_of a.keys b.keys))))) (stated_in b.stated is') line.said)
+    subst (λ is'. IsSaid a.means b.means (stated_in a.stated is') (stated_at b k) line.said) (front_indexes a b k)
+    (subst (λ is'. IsSaid a.means b.means (stated_in a.stated (indexes_in (front_of_a (filter (has_key k) (entries_of a.keys b.keys))))) (stated_in b.stated is') line.said)
     (after_indexes a b k) is.said)
 
 -- ---- keys of events
@@ -284,7 +284,7 @@ keys_of_entries a b =
 
 -- ---- the report
 
-pub is_report : (a b : Calendar) (sorted : List Entry) (lines : List ReportLine)
+pub is_report : (a b : ZonedCalendar) (sorted : List Entry) (lines : List ReportLine)
     → IsSortedOf (entries_of a.keys b.keys) sorted → AreLinesOf a b sorted lines → IsReport a b lines
 is_report a b sorted lines order lined =
     let up = Ascends-from_sorted entry_key key_cmp key_cmp_total sorted order.rises in

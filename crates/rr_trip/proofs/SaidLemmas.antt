@@ -1,6 +1,7 @@
--- What is said of a key by what both calendars state.
-use Rattle.std.proofs.Common.{◌≡◌, ℕ, ℤ, Bool, List, [], ◌∷◌, ◌++◌, length, refl, ap, subst, ◌∙◌, arith}
+-- What is known of a key before its zones are looked at.
+use Rattle.std.proofs.Common.{◌≡◌, inl, inr, ℕ, ℤ, Bool, true, List, [], ◌∷◌, length, None, Some, Ok, Option, Result, refl, ap, sym, subst, ◌∙◌, arith}
 use Rattle.std.proofs.lemmas.Int.{ints}
+use Rattle.rr_days.specs.Sequence.{sketch}
 use Rattle.rr_decide.specs.Occurrence.{NamesUpToMaxDay}
 use Rattle.rr_model.specs.Moment.{Occurrences, day_part}
 use Rattle.rr_model.specs.Moment.Years.{IsFromYearOne}
@@ -20,17 +21,25 @@ use Rattle.rr_seam.specs.Stated.{IsKeyStated, Stated}
 use Rattle.rr_seam.specs.declared.file.KeySeries.{KeySeries}
 use Rattle.rr_seam.specs.declared.refusal.KeyFault.{KeyFault}
 use Rattle.rr_seam.specs.declared.refusal.KeyFault.TheVariants as key_fault
+use Rattle.rr_seam.specs.declared.refusal.KeyRefusal.{KeyRefusal}
 use Rattle.rr_text.specs.Printed.{IsPrintable}
-use Rattle.rr_trip.specs.Judged.{IsFaultBy, IsFoldOf, IsKeyFault, IsKeySeries}
+use Rattle.rr_trip.specs.Judged.{IsFoldOf, IsKeyFault}
+use Rattle.rr_trip.specs.Pairs.{IsBeside, IsFaultTold, IsJudged, IsJudgedBoth, IsJudgedWith, IsKept, IsPair, IsPairOf, IsPairWith, IsSaidOfJudged, IsSound, days_b, days_beside, series_b, series_beside, zones_beside}
+use Rattle.rr_trip.specs.Readings.{reading_of}
 use Rattle.rr_trip.specs.Report.{stated_in}
-use Rattle.rr_trip.specs.Said.{IsCompared, IsFaultSaid, IsPrintableSaid, IsSaid, IsSaidBeside, IsSaidOfBoth, IsSaidWith, have_one_zone}
+use Rattle.rr_trip.specs.Said.{IsComparison, IsRefusedOn, IsSaid, IsSaidBy, IsSaidOfBoth}
+use Rattle.rr_trip.specs.Zoned.{Meaning}
+use Rattle.rr_trip.specs.declared.judge.KeyDays.{KeyDays}
+use Rattle.rr_trip.specs.declared.pair.Beside.{Beside}
+use Rattle.rr_trip.specs.declared.pair.Judged.{Judged}
+use Rattle.rr_trip.specs.declared.pair.Judged.TheVariants.{Told, Compared}
+use Rattle.rr_trip.specs.declared.pair.KeyPair.{KeyPair}
 use Rattle.rr_trip.specs.declared.said.Said.{Said}
-use Rattle.rr_trip.specs.declared.said.Said.TheVariants.{Only, Refused, Compared}
-use Rattle.rr_trip.proofs.JudgeLemmas.{refusal_stated}
+use Rattle.rr_trip.specs.declared.said.Said.TheVariants as said
 
 -- ---- equal sets have the same verdict
 
-verdict_kept : (P P' Q Q' : Occurrences) → HaveEqualOccurrences P P' → HaveEqualOccurrences Q Q' → (v : Verdict) → IsEqualVerdict P Q v → IsEqualVerdict P' Q' v
+pub verdict_kept : (P P' Q Q' : Occurrences) → HaveEqualOccurrences P P' → HaveEqualOccurrences Q Q' → (v : Verdict) → IsEqualVerdict P Q v → IsEqualVerdict P' Q' v
 verdict_kept P P' Q Q' f g Yes h = λ k t. both_ways (P k t) (P' k t) (Q k t) (Q' k t) (f k t) (g k t) (h k t)
 verdict_kept P P' Q Q' f g (No k t side) h = (
   HoldsOnlyOf-same side (P k t) (P' k t) (Q k t) (Q' k t) (f k t) (g k t) h.0,
@@ -45,89 +54,137 @@ module _ (a b : Series) (s u : Sketch) (fa : IsFoldOf a s) (fb : IsFoldOf b u) w
   holds_from_year_one B k t h = fb.from_year_one k t ((fb.stands k t).0 h.0)
   holds_from_year_one Both k t h = absurd h
 
-  printable_verdict : (v : Verdict) → IsEqualVerdict (StandsIn s) (StandsIn u) v → NamesUpToMaxDay v → IsPrintable v
+  pub printable_verdict : (v : Verdict) → IsEqualVerdict (StandsIn s) (StandsIn u) v → NamesUpToMaxDay v → IsPrintable v
   printable_verdict Yes h day = tt
   printable_verdict (No k t side) h day =
       let first = holds_from_year_one side k t h.0 in
       let low = (from_year_one (day_part k t)).0 first in
       (first, (omega (arith, ints, low), omega (arith, ints, day)))
 
-  pub printable : (zones : Bool) (said : Said) → IsCompared s u zones said → IsPrintableSaid said
-  printable zones (Only side) h = tt
-  printable zones (Refused side refusal) h = tt
-  printable zones (Compared v one_zone) h = printable_verdict v h.0 h.1
+  -- the verdict on local times is that on the occurrences
+  pub local_verdict_is : (v : Verdict) → IsEqualVerdict (StandsIn s) (StandsIn u) v → IsEqualVerdict (Occurs a) (Occurs b) v
+  local_verdict_is v h = verdict_kept (StandsIn s) (Occurs a) (StandsIn u) (Occurs b) fa.stands fb.stands v h
 
-  -- what is said by their days
-  pub compared : (place : ℕ) (zones : Bool) (said : Said) → IsCompared s u zones said → IsSaidBeside a place b zones said
-  compared place zones (Only side) h = absurd h
-  compared place zones (Refused side refusal) h = absurd h
-  compared place zones (Compared v one_zone) h =
-      (fb.unrefused, verdict_kept (StandsIn s) (Occurs a) (StandsIn u) (Occurs b) fa.stands fb.stands v h.0, h.2)
+-- ---- what B states beside the days of A
 
--- the same series has the same occurrences
-pub same_compared : (a b : Series) (s : Sketch) (place : ℕ) (zones one_zone : Bool) → IsFoldOf a s → a ≡ b → one_zone ≡ zones
-    → IsSaidBeside a place b zones (Compared Yes one_zone)
-same_compared a b s place zones one_zone fa e same =
-    subst (λ (x : Series). IsSaidBeside a place x zones (Compared Yes one_zone)) e (fa.unrefused, (λ k t. ((λ o. o), (λ o. o))), same)
+-- the same series has the same days
+pub kept_same : (a : KeyDays) (b : KeySeries) (beside : Beside) → series_beside a.series beside ≡ a.series → zones_beside beside ≡ b.zones.items
+    → days_beside a.days beside ≡ a.days → a.series ≡ b.series → IsFoldOf a.series (sketch a.days) → IsKept a b beside
+kept_same a b beside same zones days e folded = record {
+  series = same ∙ e;
+  zones = zones;
+  folded = subst (λ (s : Series). IsFoldOf s (sketch (days_beside a.days beside))) (sym same) (subst (λ d. IsFoldOf a.series (sketch d)) (sym days) folded);
+}
 
--- a limit refuses the series of B
-pub refused_beside : (a : Series) (place : ℕ) (b : Series) (zones : Bool) (fault : KeyFault) (said : Said) → IsFaultBy place b fault → IsFaultSaid B fault said
-    → IsSaidBeside a place b zones said
-refused_beside a place b zones (key_fault.Refused r) said is h = rw h is
-refused_beside a place b zones key_fault.NoMemory said is h = absurd h
+-- what is kept of a series is kept of the one that is stated
+pub kept_beside : (a : KeyDays) (b : Stated) (key : KeySeries) (beside : Beside) → IsKeyStated b key → IsKept a key beside → IsBeside a b beside
+kept_beside a b key beside stated kept = record {
+  states = stated.states ∙ ap Ok (sym kept.series);
+  zones = kept.zones ∙ stated.zones;
+  folded = kept.folded;
+}
 
--- ---- what B states beside a series of A
+-- the local times of the same days are equal
+pub same_local : (s : Sketch) → IsEqualVerdict (StandsIn s) (StandsIn s) Yes
+same_local s = λ k t. ((λ o. o), (λ o. o))
 
-pub said_of_stated : (a : Series) (zones : List (List ℕ)) (b : Stated) (key : KeySeries) (said : Said) → IsKeyStated b key
-    → IsSaidBeside a key.place key.series (have_one_zone (zones ++ key.zones.items)) said → IsSaidWith a zones b said
-said_of_stated a zones b key (Only side) stated h = absurd h
-said_of_stated a zones b key (Refused A refusal) stated h = absurd h
-said_of_stated a zones b key (Refused B refusal) stated h = refusal_stated b key stated refusal h
-said_of_stated a zones b key (Refused Both refusal) stated h = absurd h
-said_of_stated a zones b key (Compared v one_zone) stated h = (
-  record { series = key.series; second = record { states = stated.states; unrefused = h.0 }; is_verdict = h.1 },
-  h.2 ∙ ap (λ (zs : List (List ℕ)). have_one_zone (zones ++ zs)) stated.zones,
-)
+-- the refusal of B
+pub refused_with : (a : KeyDays) (b : Stated) (fault : KeyFault) (judged : Judged) → IsKeyFault b fault → IsFaultTold B fault judged → IsJudgedWith a b judged
+refused_with a b (key_fault.Refused r) judged is h = rw h is
+refused_with a b key_fault.NoMemory judged is h = absurd h
 
-pub said_of_refused : (a : Series) (zones : List (List ℕ)) (b : Stated) (fault : KeyFault) (said : Said) → IsKeyFault b fault → IsFaultSaid B fault said
-    → IsSaidWith a zones b said
-said_of_refused a zones b (key_fault.Refused r) said is h = rw h is
-said_of_refused a zones b key_fault.NoMemory said is h = absurd h
+-- the refusal of A
+pub refused_both : (a b : Stated) (fault : KeyFault) (judged : Judged) → IsKeyFault a fault → IsFaultTold A fault judged → IsJudgedBoth a b judged
+refused_both a b (key_fault.Refused r) judged is h = rw h is
+refused_both a b key_fault.NoMemory judged is h = absurd h
 
--- what is said if A states this series
-pub both_said : (a b : Stated) (s : Series) (zones : List (List ℕ)) (said : Said) → IsKeySeries a s → zones ≡ a.zones → IsSaidWith s zones b said
-    → IsSaidOfBoth a b said
-both_said a b s zones (Only side) first same h = absurd h
-both_said a b s zones (Refused A refusal) first same h = absurd h
-both_said a b s zones (Refused B refusal) first same h = record { series = s; first = first; refused = h }
-both_said a b s zones (Refused Both refusal) first same h = absurd h
-both_said a b s zones (Compared v one_zone) first same h = (
-  record { series_a = s; series_b = h.0.series; first = first; second = h.0.second; is_verdict = h.0.is_verdict },
-  h.1 ∙ ap (λ (zs : List (List ℕ)). have_one_zone (zs ++ b.zones)) same,
-)
+-- the days of both are a pair
+pub pair_of : (a b : Stated) (days : KeyDays) (pair : KeyPair) → a.series ≡ Ok days.series → days.zones.items ≡ a.zones
+    → IsFoldOf days.series (sketch days.days) → IsPairWith days b pair → IsPairOf a b pair
+pair_of a b days pair states zones folded beside = record {
+  states_a = states ∙ ap (λ (d : KeyDays). Ok d.series) (sym beside.same);
+  states_b = beside.of_b.states;
+  zones_a = ap (λ (d : KeyDays). d.zones.items) beside.same ∙ zones;
+  zones_b = beside.of_b.zones;
+  is_pair = record {
+    of_a = subst (λ (d : KeyDays). IsFoldOf d.series (sketch d.days)) (sym beside.same) folded;
+    of_b = beside.of_b.folded;
+    is_local = beside.is_local;
+    day = beside.day;
+  };
+}
 
--- the events of A are refused
-pub first_refused : (a b : Stated) (fault : KeyFault) (said : Said) → IsKeyFault a fault → IsFaultSaid A fault said → IsSaidOfBoth a b said
-first_refused a b (key_fault.Refused r) said is h = rw h is
-first_refused a b key_fault.NoMemory said is h = absurd h
-
-pub refused-printable : (side : Side) (fault : KeyFault) (said : Said) → IsFaultSaid side fault said → IsPrintableSaid said
-refused-printable side (key_fault.Refused r) said h = rw h tt
-refused-printable side key_fault.NoMemory said h = absurd h
+-- what is known beside the days of A is known of both
+pub judged_both : (a b : Stated) (days : KeyDays) (judged : Judged) → a.series ≡ Ok days.series → days.zones.items ≡ a.zones
+    → IsFoldOf days.series (sketch days.days) → IsJudgedWith days b judged → IsJudgedBoth a b judged
+judged_both a b days (Told (said.Only side)) states zones folded h = absurd h
+judged_both a b days (Told (said.Refused A refusal)) states zones folded h = absurd h
+judged_both a b days (Told (said.Refused B refusal)) states zones folded h =
+    record { series = days.series; first = record { states = states; unrefused = folded.unrefused }; refused = h }
+judged_both a b days (Told (said.Refused Both refusal)) states zones folded h = absurd h
+judged_both a b days (Told (said.Floating side)) states zones folded h = absurd h
+judged_both a b days (Told (said.Compared verdict zs)) states zones folded h = absurd h
+judged_both a b days (Compared pair) states zones folded h = pair_of a b days pair states zones folded h
 
 -- ---- a calendar without events of the key
 
-pub none_of_b : (a b : List ℕ → Stated) (is js : List ℕ) → length js ≡ 0 → IsSaid (stated_in a is) (stated_in b js) (Only A)
+pub none_of_b : (a b : List ℕ → Stated) (is js : List ℕ) → length js ≡ 0 → IsJudged (stated_in a is) (stated_in b js) (Told (said.Only A))
 none_of_b a b is [] none = refl
 none_of_b a b is (j ∷ js) none = absurd (omega (arith, none))
 
-pub none_of_a : (a b : List ℕ → Stated) (is js : List ℕ) → length is ≡ 0 → (length js ≡ 0 → ⊥) → IsSaid (stated_in a is) (stated_in b js) (Only B)
+pub none_of_a : (a b : List ℕ → Stated) (is js : List ℕ) → length is ≡ 0 → (length js ≡ 0 → ⊥) → IsJudged (stated_in a is) (stated_in b js) (Told (said.Only B))
 none_of_a a b is [] none some = absurd (some refl)
 none_of_a a b [] (j ∷ js) none some = refl
 none_of_a a b (i ∷ is) (j ∷ js) none some = absurd (omega (arith, none))
 
-pub some_of_both : (a b : List ℕ → Stated) (is js : List ℕ) (said : Said) → (length is ≡ 0 → ⊥) → (length js ≡ 0 → ⊥) → IsSaidOfBoth (a is) (b js) said
-    → IsSaid (stated_in a is) (stated_in b js) said
-some_of_both a b is [] said na nb h = absurd (nb refl)
-some_of_both a b [] (j ∷ js) said na nb h = absurd (na refl)
-some_of_both a b (i ∷ is) (j ∷ js) said na nb h = h
+pub some_of_both : (a b : List ℕ → Stated) (is js : List ℕ) (judged : Judged) → (length is ≡ 0 → ⊥) → (length js ≡ 0 → ⊥)
+    → IsJudgedBoth (a is) (b js) judged → IsJudged (stated_in a is) (stated_in b js) judged
+some_of_both a b is [] judged na nb h = absurd (nb refl)
+some_of_both a b [] (j ∷ js) judged na nb h = absurd (na refl)
+some_of_both a b (i ∷ is) (j ∷ js) judged na nb h = h
+
+-- ---- what is said of it
+
+sound_both : (a b : Stated) (judged : Judged) → IsJudgedBoth a b judged → IsSound judged
+sound_both a b (Told (said.Only side)) h = absurd h
+sound_both a b (Told (said.Refused side refusal)) h = tt
+sound_both a b (Told (said.Floating side)) h = absurd h
+sound_both a b (Told (said.Compared verdict zones)) h = absurd h
+sound_both a b (Compared pair) h = h.is_pair
+
+-- what is known of a key is sound
+pub sound : (a b : Option Stated) (judged : Judged) → IsJudged a b judged → IsSound judged
+sound a None judged h = rw h tt
+sound None (Some b) judged h = rw h tt
+sound (Some a) (Some b) judged h = sound_both a b judged h
+
+-- what is said of a pair is said of what both state
+module _ (ma mb : Meaning) (a b : Stated) where
+  compared : (pair : KeyPair) (told : Said) → IsPairOf a b pair
+      → IsSaidBy (reading_of ma mb pair.a.series.kind (series_b pair).kind pair.a.zones.items (zones_beside pair.b)) pair.a.series (series_b pair) told
+      → IsComparison ma mb a b told
+  compared pair told is h = record {
+    series_a = pair.a.series;
+    series_b = series_b pair;
+    first = record { states = is.states_a; unrefused = is.is_pair.of_a.unrefused };
+    second = record { states = is.states_b; unrefused = is.is_pair.of_b.unrefused };
+    is_said = subst (λ zs. IsSaidBy (reading_of ma mb pair.a.series.kind (series_b pair).kind zs b.zones) pair.a.series (series_b pair) told) is.zones_a
+        (subst (λ zs. IsSaidBy (reading_of ma mb pair.a.series.kind (series_b pair).kind pair.a.zones.items zs) pair.a.series (series_b pair) told) is.zones_b h);
+  }
+
+  refused : (side : Side) (refusal : KeyRefusal) (told : Said) → IsRefusedOn side a b refusal → told ≡ said.Refused side refusal → IsSaidOfBoth ma mb a b told
+  refused side refusal told h e = inl (record { side = side; refusal = refusal; refused = h; is = e })
+
+  said_both : (judged : Judged) (told : Said) → IsJudgedBoth a b judged → IsSaidOfJudged ma mb judged told → IsSaidOfBoth ma mb a b told
+  said_both (Told (said.Only side)) told h e = absurd h
+  said_both (Told (said.Refused side refusal)) told h e = refused side refusal told h e
+  said_both (Told (said.Floating side)) told h e = absurd h
+  said_both (Told (said.Compared verdict zones)) told h e = absurd h
+  said_both (Compared pair) told h e = inr (compared pair told h e)
+
+-- what is said by what is known of a key is said of what its events state
+pub said_judged : (ma mb : Meaning) (a b : Option Stated) (judged : Judged) (told : Said) → IsJudged a b judged → IsSaidOfJudged ma mb judged told
+    → IsSaid ma mb a b told
+said_judged ma mb a None judged told h e = subst (λ j. IsSaidOfJudged ma mb j told) h e
+said_judged ma mb None (Some b) judged told h e = subst (λ j. IsSaidOfJudged ma mb j told) h e
+said_judged ma mb (Some a) (Some b) judged told h e = said_both ma mb a b judged told h e

@@ -1,31 +1,39 @@
 -- What is shown of the events of one name.
-use Rattle.std.proofs.Common.{◌≡◌, inl, inr, ℕ, ◌+◌, ◌<◌, ◌≤◌, ℤ, Bool, true, false, cond, List, [], ◌∷◌, ◌++◌, length, take, drop, Ok, Err, refl, ap, sym, ◌∙◌, append_assoc, append-nil, arith}
+use Rattle.std.proofs.Common.{◌≡◌, inl, inr, ℕ, ◌+◌, ◌<◌, ◌≤◌, ℤ, Bool, true, false, cond, List, [], ◌∷◌, ◌++◌, length, take, drop, Ok, Err, refl, ap, subst, sym, ◌∙◌, append_assoc, append-nil, arith}
 use Rattle.std.specs.Prelude.{IfOk, Result}
 use Rattle.std.proofs.lemmas.Bool.{true≢false}
 use Rattle.std.proofs.lemmas.Int.{ints}
+use Rattle.std.proofs.lemmas.List.{at_drop_all}
 use Rattle.std.proofs.lemmas.List.Elements.{All-contains, Contains-push}
+use Rattle.rr_days.specs.Sequence.{sketch}
 use Rattle.rr_differ.specs.Differences.{IsDifference}
 use Rattle.rr_differ.specs.Further.{IsFurther, LastIsUpToMaxDay}
 use Rattle.rr_differ.specs.declared.further.Further.{Further}
 use Rattle.rr_differ.specs.declared.further.Further.TheVariants.{NoMore, Until, Many, ForEver}
 use Rattle.rr_model.specs.Moment.{day_part}
 use Rattle.rr_model.specs.Sets.Sketch.{StandsIn}
-use Rattle.rr_model.proofs.RisingSetLemmas.{Contains-tail}
-use Rattle.rr_model.proofs.YearLemmas.{from_year_one}
-use Rattle.rr_trip.proofs.SaidLemmas.{holds_from_year_one}
-use Rattle.rr_trip.specs.Printed.{IsPrintableFurther}
-use Rattle.std.proofs.lemmas.List.{at_drop_all}
 use Rattle.rr_model.specs.declared.rule.Series.{Series}
 use Rattle.rr_model.specs.declared.sketch.Sketch.{Sketch}
+use Rattle.rr_model.specs.declared.verdict.Side.{Side}
+use Rattle.rr_model.specs.declared.verdict.Side.TheVariants.{A, B}
+use Rattle.rr_model.proofs.RisingSetLemmas.{Contains-tail}
+use Rattle.rr_model.proofs.YearLemmas.{from_year_one}
 use Rattle.rr_seam.specs.Stated.{Stated}
 use Rattle.rr_seam.specs.declared.key.Key.{Key}
-use Rattle.rr_seam.specs.declared.refusal.KeyFault.{KeyFault}
-use Rattle.rr_seam.specs.declared.refusal.KeyFault.TheVariants as key_fault
-use Rattle.rr_trip.specs.Judged.{IsFoldOf, IsKeyFault}
-use Rattle.rr_trip.specs.Report.{indexes_from}
-use Rattle.rr_trip.specs.Shown.{HasNoPicture, IsPictureBeside, IsPictureFrom, IsShownOf, IsShownSaid, IsTold, IsUnknown, IsUnpainted, are_none, is_key_named, named_part}
+use Rattle.rr_trip.specs.Judged.{IsFoldOf}
+use Rattle.rr_trip.specs.Pairs.{IsJudged, IsJudgedBoth, IsPairOf, IsSaidOfJudged, days_b, series_b}
+use Rattle.rr_trip.specs.Printed.{IsPrintableFurther}
+use Rattle.rr_trip.specs.Report.{indexes_from, stated_in}
+use Rattle.rr_trip.specs.Shown.{IsPictureFor, IsPictureOfJudged, IsShownBy, IsShownOf, IsShownSaid, IsUncompared, IsUnknown, TellsOfBoth, are_none, is_key_named, named_part}
+use Rattle.rr_trip.specs.Zoned.{Meaning, ZonedCalendar}
+use Rattle.rr_trip.specs.declared.pair.Judged.{Judged}
+use Rattle.rr_trip.specs.declared.pair.Judged.TheVariants as judged
+use Rattle.rr_trip.specs.declared.pair.KeyPair.{KeyPair}
+use Rattle.rr_trip.specs.declared.said.Said.{Said}
+use Rattle.rr_trip.specs.declared.said.Said.TheVariants as said
 use Rattle.rr_trip.specs.declared.shown.Shown.{Shown}
 use Rattle.rr_trip.proofs.EntryLemmas.{key_there}
+use Rattle.rr_trip.proofs.SaidLemmas.{holds_from_year_one, said_judged}
 
 -- ---- the indexes of a name
 
@@ -55,16 +63,62 @@ pub ok_each : {T E : Type 0} {P Q : T → Type 0} (r : Result T E) → IfOk r P 
 ok_each (Ok x) h f = f x h
 ok_each (Err e) h f = tt
 
-module _ (a b : List ℕ → Stated) (name : List ℕ) (shown : Shown) where
-  pub shown_unknown : (is js : List ℕ) → are_none is js ≡ true → IsUnknown name shown → IsShownOf a is b js name shown
+module _ (a b : ZonedCalendar) (name : List ℕ) (shown : Shown) where
+  pub shown_unknown : (is js : List ℕ) → are_none is js ≡ true → IsUnknown name shown → IsShownOf a b is js name shown
   shown_unknown [] [] e h = h
   shown_unknown [] (j ∷ js) e h = absurd (true≢false (sym e))
   shown_unknown (i ∷ is) js e h = absurd (true≢false (sym e))
 
-  pub shown_some : (is js : List ℕ) → are_none is js ≡ false → IsShownSaid a is b js name shown → IsShownOf a is b js name shown
+  pub shown_some : (is js : List ℕ) → are_none is js ≡ false → IsShownSaid a b is js name shown → IsShownOf a b is js name shown
   shown_some [] [] e h = absurd (true≢false e)
   shown_some [] (j ∷ js) e h = h
   shown_some (i ∷ is) js e h = h
+
+-- ---- the picture
+
+told_both : (a b : Stated) (pair : KeyPair) (text : List ℕ) → IsPairOf a b pair → IsPictureOfJudged (judged.Compared pair) text → TellsOfBoth a b text
+told_both a b pair text is h = record {
+  days_a = sketch pair.a.days;
+  days_b = sketch (days_b pair);
+  of_a = record { series = pair.a.series; states = is.states_a; folded = is.is_pair.of_a };
+  of_b = record { series = series_b pair; states = is.states_b; folded = is.is_pair.of_b };
+  verdict = pair.local;
+  is_verdict = is.is_pair.is_local;
+  tells = h;
+}
+
+picture_both : (a b : Stated) (j : Judged) (told : Said) (ma mb : Meaning) (text : List ℕ) → IsJudgedBoth a b j → IsSaidOfJudged ma mb j told
+    → IsPictureOfJudged j text → IsPictureFor a b told text
+picture_both a b (judged.Told (said.Only side)) told ma mb text h e p = absurd h
+picture_both a b (judged.Told (said.Refused side refusal)) told ma mb text h e p = inl (subst IsUncompared (sym e) tt, p)
+picture_both a b (judged.Told (said.Floating side)) told ma mb text h e p = absurd h
+picture_both a b (judged.Told (said.Compared verdict zones)) told ma mb text h e p = absurd h
+picture_both a b (judged.Compared pair) told ma mb text h e p = inr (told_both a b pair text h p)
+
+-- one calendar alone has events
+only_picture : (a b : Stated) (side : Side) (j : Judged) (told : Said) (ma mb : Meaning) (text : List ℕ) → j ≡ judged.Told (said.Only side)
+    → IsSaidOfJudged ma mb j told → IsPictureOfJudged j text → IsPictureFor a b told text
+only_picture a b side j told ma mb text h e p =
+    inl (subst IsUncompared (sym (subst (λ k. IsSaidOfJudged ma mb k told) h e)) tt, subst (λ k. IsPictureOfJudged k text) h p)
+
+module _ (a b : ZonedCalendar) (j : Judged) where
+  picture_is : (told : Said) (text is js : List ℕ) → IsJudged (stated_in a.stated is) (stated_in b.stated js) j → IsSaidOfJudged a.means b.means j told
+      → IsPictureOfJudged j text → IsPictureFor (a.stated is) (b.stated js) told text
+  picture_is told text is [] h e p = only_picture (a.stated is) (b.stated []) A j told a.means b.means text h e p
+  picture_is told text [] (y ∷ ys) h e p = only_picture (a.stated []) (b.stated (y ∷ ys)) B j told a.means b.means text h e p
+  picture_is told text (x ∷ xs) (y ∷ ys) h e p = picture_both (a.stated (x ∷ xs)) (b.stated (y ∷ ys)) j told a.means b.means text h e p
+
+  pub shown_is : (name : List ℕ) (shown : Shown) (is js : List ℕ) → IsJudged (stated_in a.stated is) (stated_in b.stated js) j
+      → IsShownBy a.means b.means j name shown → IsShownSaid a b is js name shown
+  shown_is name shown is js h by = record {
+    said = by.said;
+    more = by.more;
+    is_said = said_judged a.means b.means (stated_in a.stated is) (stated_in b.stated js) j by.said h by.is_said;
+    tells = by.tells;
+    status = by.status;
+    text = by.text;
+    picture = picture_is by.said by.more is js h by.is_said by.picture;
+  }
 
 -- ---- how many differences more
 
@@ -80,26 +134,3 @@ printable_further a b s u fa fb (Until count last) h day =
     (first, (omega (arith, ints, low), omega (arith, ints, day)))
 printable_further a b s u fa fb Many h day = tt
 printable_further a b s u fa fb ForEver h day = tt
-
--- ---- the picture
-
-module _ (day : ℤ) (text : List ℕ) where
-  unpainted : (stated : Stated) (fault : KeyFault) → IsKeyFault stated fault → IsUnpainted fault text → HasNoPicture stated text
-  unpainted stated (key_fault.Refused refusal) h e = record { refusal = refusal; refused = h; is = e }
-  unpainted stated key_fault.NoMemory h e = absurd e
-
-  pub refused_beside : (a : Sketch) (b : Stated) (fault : KeyFault) → IsKeyFault b fault → IsUnpainted fault text → IsPictureBeside a b day text
-  refused_beside a b fault h e = inl (unpainted b fault h e)
-
-  pub painted_beside : (a days : Sketch) (b : Stated) (series : Series) → b.series ≡ Ok series → IsFoldOf series days
-      → IsTold a days day text → IsPictureBeside a b day text
-  painted_beside a days b series states folded told =
-      inr (record { days = days; of_b = record { series = series; states = states; folded = folded }; tells = told })
-
-  pub refused_from : (a b : Stated) (fault : KeyFault) → IsKeyFault a fault → IsUnpainted fault text → IsPictureFrom a b day text
-  refused_from a b fault h e = inl (unpainted a fault h e)
-
-  pub painted_from : (days : Sketch) (a b : Stated) (series : Series) → a.series ≡ Ok series → IsFoldOf series days → IsPictureBeside days b day text
-      → IsPictureFrom a b day text
-  painted_from days a b series states folded beside =
-      inr (record { days = days; of_a = record { series = series; states = states; folded = folded }; beside = beside })

@@ -1,5 +1,5 @@
 -- How many keys there are, and of how many each is said.
-use Rattle.std.specs.Prelude.{ℕ, Bool, true, false, not, ◌||◌, nat_lt, if◌then◌else◌, List, length, count_by}
+use Rattle.std.specs.Prelude.{ℕ, Bool, true, false, ◌||◌, nat_lt, if◌then◌else◌, List, length, count_by}
 use Rattle.rr_model.specs.declared.refusal.Refusal.TheVariants.{UtcMoment}
 use Rattle.rr_model.specs.declared.verdict.Side.{Side}
 use Rattle.rr_model.specs.declared.verdict.Side.TheVariants.{A, B, Both}
@@ -13,21 +13,25 @@ use Rattle.rr_trip.specs.declared.report.ReportLine.{ReportLine}
 use Rattle.rr_trip.specs.declared.report.Status.{Status}
 use Rattle.rr_trip.specs.declared.report.Status.TheVariants as status
 use Rattle.rr_trip.specs.declared.said.Said.{Said}
-use Rattle.rr_trip.specs.declared.said.Said.TheVariants.{Only, Refused, Compared}
+use Rattle.rr_trip.specs.declared.said.Said.TheVariants.{Only, Refused, Floating, Compared}
+use Rattle.rr_trip.specs.declared.said.Zones.{Zones}
+use Rattle.rr_trip.specs.declared.said.Zones.TheVariants.{Local, Unknown, Moments}
 
 -- the key has equal occurrences in both
 abbrev pub is_equal : Said → Bool
 is_equal (Only side) = false
 is_equal (Refused side refusal) = false
-is_equal (Compared Yes one_zone) = true
-is_equal (Compared (No kind at side) one_zone) = false
+is_equal (Floating side) = false
+is_equal (Compared Yes zones) = true
+is_equal (Compared (No kind at side) zones) = false
 
--- the key has an occurrence that one calendar alone has
+-- the key has an occurrence that one calendar alone has, or has a zone in one alone
 abbrev pub differs : Said → Bool
 differs (Only side) = false
 differs (Refused side refusal) = false
-differs (Compared Yes one_zone) = false
-differs (Compared (No kind at side) one_zone) = true
+differs (Floating side) = true
+differs (Compared Yes zones) = false
+differs (Compared (No kind at side) zones) = true
 
 -- the two sides are one
 abbrev pub is_same_side : Side → Side → Bool
@@ -40,13 +44,15 @@ is_same_side side other = false
 abbrev pub is_only : Side → Said → Bool
 is_only side (Only other) = is_same_side other side
 is_only side (Refused other refusal) = false
-is_only side (Compared verdict one_zone) = false
+is_only side (Floating other) = false
+is_only side (Compared verdict zones) = false
 
 -- the events of the key are refused
 abbrev pub is_refused : Said → Bool
 is_refused (Only side) = false
 is_refused (Refused side refusal) = true
-is_refused (Compared verdict one_zone) = false
+is_refused (Floating side) = false
+is_refused (Compared verdict zones) = false
 
 -- a refusal is of a moment in UTC beside local time
 abbrev pub is_utc : KeyRefusal → Bool
@@ -57,13 +63,22 @@ is_utc refusal = false
 abbrev pub is_in_utc : Said → Bool
 is_in_utc (Only side) = false
 is_in_utc (Refused side refusal) = is_utc refusal
-is_in_utc (Compared verdict one_zone) = false
+is_in_utc (Floating side) = false
+is_in_utc (Compared verdict zones) = false
 
--- the zones of the key's events differ
-abbrev pub has_other_zone : Said → Bool
-has_other_zone (Only side) = false
-has_other_zone (Refused side refusal) = false
-has_other_zone (Compared verdict one_zone) = not one_zone
+-- the zones may differ, though local times are equal
+abbrev pub may_differ : Zones → Bool
+may_differ Local = false
+may_differ Unknown = true
+may_differ (Moments ahead only_zones) = false
+
+-- the key has equal local times in both, and nobody can tell from the files whether it has the same moments
+abbrev pub is_unsure : Said → Bool
+is_unsure (Only side) = false
+is_unsure (Refused side refusal) = false
+is_unsure (Floating side) = false
+is_unsure (Compared Yes zones) = may_differ zones
+is_unsure (Compared (No kind at side) zones) = false
 
 -- a key is counted so
 abbrev pub is_counted : Counted → Said → Bool
@@ -71,7 +86,7 @@ is_counted counted.Equal said = is_equal said
 is_counted counted.Differs said = differs said
 is_counted (counted.Only side) said = is_only side said
 is_counted counted.Refused said = is_refused said
-is_counted counted.OtherZone said = has_other_zone said
+is_counted counted.Unsure said = is_unsure said
 is_counted counted.InUtc said = is_in_utc said
 
 -- how many lines of a report say what the test asks for
@@ -87,11 +102,11 @@ counts_of lines = record {
   only_a = count_said (is_only A) lines;
   only_b = count_said (is_only B) lines;
   refused = count_said is_refused lines;
-  zone = count_said has_other_zone lines;
+  zone = count_said is_unsure lines;
 }
 
 -- how a comparison with these counts ends
 abbrev pub status_of : Counts → Status
 status_of counts =
     if nat_lt 0 counts.differs || (nat_lt 0 counts.only_a || nat_lt 0 counts.only_b) then status.Differs
-    else (if nat_lt 0 counts.refused then status.Refused else status.Equal)
+    else (if nat_lt 0 counts.refused || nat_lt 0 counts.zone then status.Refused else status.Equal)

@@ -21,11 +21,12 @@ use Rattle.rr_trip.specs.declared.judge.KeyDays.{KeyDays}
 
 -- ---- a series
 
--- the series is refused by no limit, and the sketch stands for its occurrences and repeats after its cycle
+-- the series is refused by no limit, and the sketch stands for its occurrences, is of its kind and repeats after its cycle
 pub record IsFoldOf (series : Series) (sketch : Sketch) : Type 0 where
   pub unrefused : IsFirstRefusal all_limits series None
   pub from_year_one : OccurFromYearOne (Occurs series)
   pub stands : StandsFor sketch (Occurs series)
+  pub kind : sketch.kind ≡ series.kind
   pub period : sketch.period ≡ series_cycle series
 
 -- a fault is the first refusal of the series by all limits, or out of memory

@@ -1,7 +1,12 @@
 pub mod Entries
 pub mod Judged
 pub mod Same
+pub mod Zoned
+pub mod Readings
 pub mod Said
+pub mod Pairs
+pub mod Known
+pub mod Zones
 pub mod Report
 pub mod Counts
 pub mod Printed

@@ -1,10 +1,11 @@
 -- The lines of a report as they are printed.
-use Rattle.std.specs.Prelude.{⊤, ℕ, ◌+◌, ◌-◌, ◌/◌, ◌%◌, ◌==◌, nat_lt, Bool, true, false, not, ◌&&◌, ◌||◌, if◌then◌else◌, List, [], ◌∷◌, ◌++◌, codes}
+use Rattle.std.specs.Prelude.{⊤, ℕ, ◌+◌, ◌-◌, ◌/◌, ◌%◌, ◌==◌, nat_lt, Bool, true, false, not, ◌&&◌, ◌||◌, if◌then◌else◌, List, [], ◌∷◌, ◌++◌, codes, ℤ, pos, int_lt, nat_abs}
 use Rattle.std.specs.Fmt.{decimal}
-use Rattle.rr_model.specs.Text.Moments.{extended_text}
+use Rattle.rr_model.specs.Text.Moments.{decimal_of, extended_text}
 use Rattle.rr_model.specs.Text.Refusals.{refusal_text}
 use Rattle.rr_model.specs.declared.refusal.Refusal.{Refusal}
 use Rattle.rr_model.specs.declared.refusal.Refusal.TheVariants.{BadLine, BadMoment, MixedKinds, BadRule, PartTwice, NumberRange, NotSynchronised, NotRising}
+use Rattle.rr_model.specs.declared.kind.Kind.{Kind}
 use Rattle.rr_model.specs.declared.verdict.Side.{Side}
 use Rattle.rr_model.specs.declared.verdict.Verdict.{Verdict}
 use Rattle.rr_model.specs.declared.verdict.Verdict.TheVariants.{Yes, No}
@@ -16,11 +17,15 @@ use Rattle.rr_seam.specs.declared.refusal.KeyRefusal.{KeyRefusal}
 use Rattle.rr_seam.specs.declared.refusal.KeyRefusal.TheVariants as refusal
 use Rattle.rr_seam.specs.declared.key.Key.{Key}
 use Rattle.rr_seam.specs.declared.key.Key.TheVariants as key
-use Rattle.rr_trip.specs.Counts.{counts_of, has_other_zone, is_equal}
+use Rattle.rr_trip.specs.Counts.{counts_of, is_equal, is_unsure}
 use Rattle.rr_trip.specs.declared.report.Counts.{Counts}
 use Rattle.rr_trip.specs.declared.report.ReportLine.{ReportLine}
 use Rattle.rr_trip.specs.declared.said.Said.{Said}
-use Rattle.rr_trip.specs.declared.said.Said.TheVariants.{Only, Refused, Compared}
+use Rattle.rr_trip.specs.declared.said.Said.TheVariants.{Only, Refused, Floating, Compared}
+use Rattle.rr_trip.specs.declared.said.Ahead.{Ahead}
+use Rattle.rr_trip.specs.declared.said.Ahead.TheVariants.{Utc, By}
+use Rattle.rr_trip.specs.declared.said.Zones.{Zones}
+use Rattle.rr_trip.specs.declared.said.Zones.TheVariants.{Local, Unknown, Moments}
 use Rattle.rr_text.specs.Printed.{IsPrintableAt, side_text}
 
 -- ---- keys
@@ -102,10 +107,48 @@ file_refusal_line side r = codes "refused " ++ side_text side ++ file_refusal_te
 
 -- ---- lines
 
+-- the seconds of an offset, unless it is one of whole minutes
+abbrev pub seconds_text : ℕ → List ℕ
+seconds_text n = if n % 60 == 0 then [] else codes ":" ++ decimal_of 2 (n % 60)
+
+-- an offset in seconds, as hours and minutes (ISO 8601, RFC 3339), and seconds if it has some
+abbrev pub offset_text : ℤ → List ℕ
+offset_text offset =
+    let n = nat_abs offset in
+    (if int_lt offset (pos 0) then codes "-" else codes "+") ++ decimal_of 2 (n / 3600) ++ codes ":" ++ decimal_of 2 (n / 60 % 60) ++ seconds_text n
+
+-- how far local time is ahead of UTC, behind the moment that is told
+abbrev pub ahead_text : Ahead → List ℕ
+ahead_text Utc = codes "Z"
+ahead_text (By offset) = offset_text offset
+
+-- the offset of the side that has a moment; none if local times are compared
+abbrev pub zones_text : Zones → List ℕ
+zones_text Local = []
+zones_text Unknown = []
+zones_text (Moments ahead only_zones) = ahead_text ahead
+
+-- the mark of equal local times of which nobody can tell whether they are the same moments
+abbrev pub equal_mark : Zones → List ℕ
+equal_mark Local = []
+equal_mark Unknown = codes " zone"
+equal_mark (Moments ahead only_zones) = []
+
+-- the mark of a difference that only the zones make
+abbrev pub differs_mark : Zones → List ℕ
+differs_mark Local = []
+differs_mark Unknown = []
+differs_mark (Moments ahead true) = codes " zone"
+differs_mark (Moments ahead false) = []
+
+-- the moment that one side alone has, with its offset there, and the side
+abbrev pub moment_text : Kind → ℤ → Side → Zones → List ℕ
+moment_text kind at side zones = extended_text kind at ++ zones_text zones ++ codes " " ++ side_text side
+
 -- a verdict on a key as it is printed
-abbrev pub verdict_text : List ℕ → Verdict → List ℕ
-verdict_text key Yes = codes "equal " ++ key
-verdict_text key (No kind at side) = codes "differs " ++ key ++ codes " no " ++ extended_text kind at ++ codes " " ++ side_text side
+abbrev pub verdict_text : List ℕ → Verdict → Zones → List ℕ
+verdict_text key Yes zones = codes "equal " ++ key ++ equal_mark zones
+verdict_text key (No kind at side) zones = codes "differs " ++ key ++ codes " no " ++ moment_text kind at side zones ++ differs_mark zones
 
 -- how many occurrences exactly one of both has beside the first, and which is the last of them
 abbrev pub further_text : Further → List ℕ
@@ -121,20 +164,16 @@ IsPrintableFurther (Until count last) = IsPrintableAt last.kind last.at
 IsPrintableFurther Many = ⊤
 IsPrintableFurther ForEver = ⊤
 
--- what stands behind the line of a key: the mark of zones that differ
-abbrev pub zone_text : Bool → List ℕ
-zone_text true = []
-zone_text false = codes " zone"
-
 -- what is said of a key, as it is printed
 abbrev pub said_text : List ℕ → Said → List ℕ
 said_text key (Only side) = codes "only " ++ side_text side ++ codes " " ++ key
 said_text key (Refused side r) = codes "refused " ++ key ++ codes " " ++ side_text side ++ codes " " ++ key_refusal_text r
-said_text key (Compared verdict one_zone) = verdict_text key verdict ++ zone_text one_zone
+said_text key (Floating side) = codes "differs " ++ key ++ codes " floating " ++ side_text side
+said_text key (Compared verdict zones) = verdict_text key verdict zones
 
--- a line is printed if those of equal keys in the same zones are left out
+-- a line is printed if those of equal keys are left out, unless nobody can tell of one
 abbrev pub is_difference : Said → Bool
-is_difference said = not (is_equal said) || has_other_zone said
+is_difference said = not (is_equal said) || is_unsure said
 
 -- the line of a key, or nothing where it is left out
 abbrev pub line_text : Bool → ReportLine → List ℕ

@@ -3,11 +3,14 @@ use Rattle.std.specs.Prelude.{◌≡◌, ℕ, ◌+◌, Bool, if◌then◌else◌
 use Rattle.std.specs.List.{Contains}
 use Rattle.rr_model.specs.Rising.{Rises}
 use Rattle.rr_seam.specs.Keys.{is_same_key, key_lt}
-use Rattle.rr_seam.specs.Stated.{Calendar, Stated}
+use Rattle.rr_seam.specs.Stated.{Stated}
 use Rattle.rr_seam.specs.declared.key.Key.{Key}
 use Rattle.rr_trip.specs.Entries.{has_key, indexes_in, is_of_a}
+use Rattle.rr_trip.specs.Pairs.{IsJudged}
 use Rattle.rr_trip.specs.Said.{IsPrintableSaid, IsSaid}
+use Rattle.rr_trip.specs.Zoned.{ZonedCalendar}
 use Rattle.rr_trip.specs.declared.entry.Entry.{Entry}
+use Rattle.rr_trip.specs.declared.pair.Judged.{Judged}
 use Rattle.rr_trip.specs.declared.report.ReportLine.{ReportLine}
 
 -- what the events of these indexes state together, if they are some
@@ -21,11 +24,11 @@ indexes_from test n [] = []
 indexes_from test n (k ∷ ks) = if test k then n ∷ indexes_from test (n + 1) ks else indexes_from test (n + 1) ks
 
 -- what the events whose key passes a test state together in a calendar, if it has some
-abbrev pub stated_by : (Key → Bool) → Calendar → Option Stated
+abbrev pub stated_by : (Key → Bool) → ZonedCalendar → Option Stated
 stated_by test calendar = stated_in calendar.stated (indexes_from test 0 calendar.keys)
 
 -- what the events of a key state together in a calendar, if it has some
-abbrev pub stated_at : Calendar → Key → Option Stated
+abbrev pub stated_at : ZonedCalendar → Key → Option Stated
 stated_at calendar key = stated_by (λ k. is_same_key k key) calendar
 
 -- the keys of a report's lines
@@ -33,11 +36,11 @@ abbrev pub keys_of : List ReportLine → List Key
 keys_of lines = map (λ (line : ReportLine). line.key) lines
 
 -- each key of either calendar has one line, in their order, and each line says what is so of its key
-pub record IsReport (a b : Calendar) (lines : List ReportLine) : Type 0 where
+pub record IsReport (a b : ZonedCalendar) (lines : List ReportLine) : Type 0 where
   pub rises : Rises key_lt (keys_of lines)
   pub every : All (Contains (keys_of lines)) (a.keys ++ b.keys)
   pub none_else : All (λ (line : ReportLine). Contains (a.keys ++ b.keys) line.key) lines
-  pub said : All (λ (line : ReportLine). IsSaid (stated_at a line.key) (stated_at b line.key) line.said) lines
+  pub said : All (λ (line : ReportLine). IsSaid a.means b.means (stated_at a line.key) (stated_at b line.key) line.said) lines
   pub printable : All (λ (line : ReportLine). IsPrintableSaid line.said) lines
 
 -- ---- lines of sorted entries
@@ -51,10 +54,14 @@ abbrev pub after_a : List Entry → List Entry
 after_a entries = drop (length (front_of_a entries)) entries
 
 -- the line of the entries of one key, those of A first
-pub record IsLineOf (a b : Calendar) (key : Key) (run : List Entry) (line : ReportLine) : Type 0 where
+pub record IsLineOf (a b : ZonedCalendar) (key : Key) (run : List Entry) (line : ReportLine) : Type 0 where
   pub of_key : line.key ≡ key
-  pub said : IsSaid (stated_in a.stated (indexes_in (front_of_a run))) (stated_in b.stated (indexes_in (after_a run))) line.said
+  pub said : IsSaid a.means b.means (stated_in a.stated (indexes_in (front_of_a run))) (stated_in b.stated (indexes_in (after_a run))) line.said
   pub printable : IsPrintableSaid line.said
+
+-- what is known of the entries of one key, those of A first, before its zones are looked at
+abbrev pub IsRunJudged : (List ℕ → Stated) → (List ℕ → Stated) → List Entry → Judged → Type 0
+IsRunJudged a b run judged = IsJudged (stated_in a (indexes_in (front_of_a run))) (stated_in b (indexes_in (after_a run))) judged
 
 -- entries begin with this run of one key, that of the first
 pub record IsRunAt (entries : List Entry) (first : Entry) (run : List Entry) : Type 0 where
@@ -69,7 +76,7 @@ pub data IsRunCount : List Entry → ℕ → Type 0 where
       → IsRunCount entries (1 + count)
 
 -- the lines of entries, run by run of one key
-pub data AreLinesOf (a b : Calendar) : List Entry → List ReportLine → Type 0 where
+pub data AreLinesOf (a b : ZonedCalendar) : List Entry → List ReportLine → Type 0 where
   none : AreLinesOf a b [] []
   next : (entries run : List Entry) (first : Entry) (line : ReportLine) (lines : List ReportLine)
       → IsRunAt entries first run → IsLineOf a b first.key run line → AreLinesOf a b (drop (length run) entries) lines

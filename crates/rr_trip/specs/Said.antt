@@ -1,30 +1,34 @@
 -- What is said of a key.
-use Rattle.std.specs.Prelude.{◌≡◌, ℕ, Bool, true, List, [], ◌∷◌, ◌++◌, Option, None, Some, Ok, ⊤, bytes_eq}
-use Rattle.std.specs.List.{list_all}
-use Rattle.rr_fold.specs.Judged.{all_limits}
-use Rattle.rr_model.specs.Series.FirstRefusal.{IsFirstRefusal}
+use Rattle.std.specs.Prelude.{◌≡◌, ◌⊎◌, ℕ, ℤ, Bool, true, false, if◌then◌else◌, List, Option, None, Some, ⊤}
+use Rattle.rr_model.specs.Moment.{Occurrences}
+use Rattle.rr_model.specs.Series.Cycle.{series_cycle}
 use Rattle.rr_model.specs.Series.Occurrences.{Occurs}
-use Rattle.rr_decide.specs.Occurrence.{NamesUpToMaxDay}
-use Rattle.rr_model.specs.Sets.Sketch.{StandsIn}
-use Rattle.rr_model.specs.Sets.Verdict.{IsEqualVerdict}
+use Rattle.rr_model.specs.Sets.Verdict.{HaveEqualOccurrences, IsEqualVerdict}
+use Rattle.rr_model.specs.declared.kind.Kind.{Kind}
+use Rattle.rr_model.specs.declared.kind.Kind.TheVariants as kind
 use Rattle.rr_model.specs.declared.rule.Series.{Series}
-use Rattle.rr_model.specs.declared.sketch.Sketch.{Sketch}
 use Rattle.rr_model.specs.declared.verdict.Side.{Side}
 use Rattle.rr_model.specs.declared.verdict.Side.TheVariants.{A, B, Both}
 use Rattle.rr_model.specs.declared.verdict.Verdict.{Verdict}
+use Rattle.rr_model.specs.declared.verdict.Verdict.TheVariants.{Yes, No}
 use Rattle.rr_seam.specs.Stated.{Stated}
-use Rattle.rr_seam.specs.declared.refusal.KeyFault.{KeyFault}
-use Rattle.rr_seam.specs.declared.refusal.KeyFault.TheVariants as key_fault
 use Rattle.rr_seam.specs.declared.refusal.KeyRefusal.{KeyRefusal}
-use Rattle.rr_text.specs.Printed.{IsPrintable}
-use Rattle.rr_trip.specs.Judged.{IsKeyRefusal, IsKeySeries, IsRefusalBy}
+use Rattle.rr_text.specs.Printed.{IsPrintable, IsPrintableAt}
+use Rattle.rr_true.specs.Changes.{IsBelowDay}
+use Rattle.rr_true.specs.Moments.{local_at}
+use Rattle.rr_true.specs.Occurrences.{TrueOf}
+use Rattle.rr_utc.specs.Walks.{IsLong}
+use Rattle.rr_trip.specs.Judged.{IsKeyRefusal, IsKeySeries}
+use Rattle.rr_trip.specs.Readings.{Reading, Zone, reading_of}
+use Rattle.rr_trip.specs.Zoned.{Meaning, is_utc}
+use Rattle.rr_trip.specs.declared.said.Ahead.{Ahead}
+use Rattle.rr_trip.specs.declared.said.Ahead.TheVariants.{Utc, By}
 use Rattle.rr_trip.specs.declared.said.Said.{Said}
-use Rattle.rr_trip.specs.declared.said.Said.TheVariants.{Only, Refused, Compared}
+use Rattle.rr_trip.specs.declared.said.Said.TheVariants.{Only, Refused, Floating, Compared}
+use Rattle.rr_trip.specs.declared.said.Zones.{Zones}
+use Rattle.rr_trip.specs.declared.said.Zones.TheVariants.{Local, Unknown, Moments}
 
--- the names of zones are all the same
-abbrev pub have_one_zone : List (List ℕ) → Bool
-have_one_zone [] = true
-have_one_zone (zone ∷ zones) = list_all (bytes_eq zone) zones
+-- ---- refusals
 
 -- the events of B are refused, while those of A state a series
 pub record IsSecondRefusal (a b : Stated) (refusal : KeyRefusal) : Type 0 where
@@ -38,64 +42,126 @@ IsRefusedOn A a b refusal = IsKeyRefusal a refusal
 IsRefusedOn B a b refusal = IsSecondRefusal a b refusal
 IsRefusedOn Both a b refusal = ⊥
 
--- the events of a key state a series in each calendar, and this is the verdict on their equality, over all whole numbers
-pub record IsComparison (a b : Stated) (verdict : Verdict) : Type 0 where
+-- it is said that the events of a key are refused
+pub record IsSaidRefused (a b : Stated) (said : Said) : Type 0 where
+  pub side : Side
+  pub refusal : KeyRefusal
+  pub refused : IsRefusedOn side a b refusal
+  pub is : said ≡ Refused side refusal
+
+-- ---- by local times
+
+-- it is said whether the local times of two sets are equal, over all whole numbers, and this of the zones
+pub record IsComparedLocally (zones : Zones) (P Q : Occurrences) (said : Said) : Type 0 where
+  pub verdict : Verdict
+  pub is_verdict : IsEqualVerdict P Q verdict
+  pub is : said ≡ Compared verdict zones
+
+-- one of two sets has an occurrence
+pub record HasSome (P Q : Occurrences) : Type 0 where
+  pub kind : Kind
+  pub at : ℤ
+  pub stands : P kind at ⊎ Q kind at
+
+-- this side alone has no zone: that is said, unless there is no occurrence at all
+abbrev pub IsSaidFloating : Side → Occurrences → Occurrences → Said → Type 0
+IsSaidFloating side P Q said = (HasSome P Q × (said ≡ Floating side)) ⊎ ((HasSome P Q → ⊥) × (said ≡ Compared Yes Local))
+
+-- ---- by moments
+
+-- the zone of a side
+abbrev pub zone_on : Side → Zone → Zone → Zone
+zone_on A a b = a
+zone_on B a b = b
+zone_on Both a b = a
+
+-- how far local time is ahead, as it is told: of a series in UTC, that
+abbrev pub ahead_by : List ℕ → ℤ → Ahead
+ahead_by name offset = if is_utc name then Utc else By offset
+
+-- how far local time of a zone is ahead at a moment, as it is told
+abbrev pub ahead_at : Zone → ℤ → Ahead
+ahead_at zone u = ahead_by zone.name (zone.ahead u)
+
+-- what is said of a verdict on moments of UTC: the one that it names is told by the local time and the offset of the side that has it
+abbrev pub said_of_moments : Zone → Zone → Verdict → Bool → Said
+said_of_moments a b Yes only_zones = Compared Yes (Moments Utc only_zones)
+said_of_moments a b (No k u side) only_zones =
+    Compared (No kind.Moments (local_at (zone_on side a b).ahead u) side) (Moments (ahead_at (zone_on side a b) u) only_zones)
+
+-- whether two sets have equal local times for ever, so that only their zones can differ
+abbrev pub IsOnlyZones : Occurrences → Occurrences → Bool → Type 0
+IsOnlyZones P Q true = HaveEqualOccurrences P Q
+IsOnlyZones P Q false = HaveEqualOccurrences P Q → ⊥
+
+-- it is said whether the moments of UTC that the local times of two sets name in these zones are equal, over all whole numbers
+pub record IsComparedTruly (a b : Zone) (P Q : Occurrences) (said : Said) : Type 0 where
+  pub verdict : Verdict
+  pub only_zones : Bool
+  pub is_verdict : IsEqualVerdict (TrueOf a.ahead P) (TrueOf b.ahead Q) verdict
+  pub parts : IsOnlyZones P Q only_zones
+  pub is : said ≡ said_of_moments a b verdict only_zones
+
+-- the first moment that one side alone has can't be printed in its zone: it lies before the year 1 there, or too far off
+pub record IsUnwritten (a b : Zone) (P Q : Occurrences) : Type 0 where
+  pub moment : ℤ
+  pub side : Side
+  pub is_verdict : IsEqualVerdict (TrueOf a.ahead P) (TrueOf b.ahead Q) (No kind.Moments moment side)
+  pub unwritten : IsPrintableAt kind.Moments (local_at (zone_on side a b).ahead moment) → ⊥
+
+-- no verdict on moments can be told: it would take too long, or its moment can't be printed
+abbrev pub IsUntold : Zone → Zone → Series → Series → Type 0
+IsUntold a b P Q = IsLong (series_cycle P) (series_cycle Q) ⊎ IsUnwritten a b (Occurs P) (Occurs Q)
+
+-- what is said by the moments of UTC in these zones; by local times, if no verdict on moments can be told
+abbrev pub IsSaidByMoments : Zone → Zone → Series → Series → Said → Type 0
+IsSaidByMoments a b P Q said =
+    IsComparedTruly a b (Occurs P) (Occurs Q) said ⊎ (IsUntold a b P Q × IsComparedLocally Unknown (Occurs P) (Occurs Q) said)
+
+-- ---- what is said
+
+-- what is said of two series that are compared in this way
+abbrev pub IsSaidBy : Reading → Series → Series → Said → Type 0
+IsSaidBy Reading.local P Q said = IsComparedLocally Local (Occurs P) (Occurs Q) said
+IsSaidBy Reading.unknown P Q said = IsComparedLocally Unknown (Occurs P) (Occurs Q) said
+IsSaidBy (Reading.floating side) P Q said = IsSaidFloating side (Occurs P) (Occurs Q) said
+IsSaidBy (Reading.moments a b) P Q said = IsSaidByMoments a b P Q said
+
+-- the events of a key state a series in each calendar, and this is said of them, in the way that their kinds and zones ask for
+pub record IsComparison (means_a means_b : Meaning) (a b : Stated) (said : Said) : Type 0 where
   pub series_a : Series
   pub series_b : Series
   pub first : IsKeySeries a series_a
   pub second : IsKeySeries b series_b
-  pub is_verdict : IsEqualVerdict (Occurs series_a) (Occurs series_b) verdict
+  pub is_said : IsSaidBy (reading_of means_a means_b series_a.kind series_b.kind a.zones b.zones) series_a series_b said
 
--- what is said of a key that both calendars have: the refusal of A, otherwise that of B, otherwise the verdict, and whether the zones are
--- the same
-abbrev pub IsSaidOfBoth : Stated → Stated → Said → Type 0
-IsSaidOfBoth a b (Only side) = ⊥
-IsSaidOfBoth a b (Refused side refusal) = IsRefusedOn side a b refusal
-IsSaidOfBoth a b (Compared verdict one_zone) = IsComparison a b verdict × (one_zone ≡ have_one_zone (a.zones ++ b.zones))
+-- what is said of a key that both calendars have: the refusal of A, otherwise that of B, otherwise whether their occurrences are equal
+abbrev pub IsSaidOfBoth : Meaning → Meaning → Stated → Stated → Said → Type 0
+IsSaidOfBoth means_a means_b a b said = IsSaidRefused a b said ⊎ IsComparison means_a means_b a b said
 
--- What is said of a key by what its events state in A and in B, if they are some: if one calendar has none, that the other alone has some.
-abbrev pub IsSaid : Option Stated → Option Stated → Said → Type 0
-IsSaid a None said = said ≡ Only A
-IsSaid None (Some b) said = said ≡ Only B
-IsSaid (Some a) (Some b) said = IsSaidOfBoth a b said
+-- What is said of a key by what its events state in A and in B, if they are some, and by what the names of zones mean there: if one
+-- calendar has none, that the other alone has some.
+abbrev pub IsSaid : Meaning → Meaning → Option Stated → Option Stated → Said → Type 0
+IsSaid means_a means_b a None said = said ≡ Only A
+IsSaid means_a means_b None (Some b) said = said ≡ Only B
+IsSaid means_a means_b (Some a) (Some b) said = IsSaidOfBoth means_a means_b a b said
 
--- What is said if A states one series and B another, which limits refuse at this place: the refusal of B's, or the verdict on their
--- equality, over all whole numbers, and whether the zones are the same.
-abbrev pub IsSaidBeside : Series → ℕ → Series → Bool → Said → Type 0
-IsSaidBeside a place b zones (Only side) = ⊥
-IsSaidBeside a place b zones (Refused A refusal) = ⊥
-IsSaidBeside a place b zones (Refused B refusal) = IsRefusalBy place (Ok b) refusal
-IsSaidBeside a place b zones (Refused Both refusal) = ⊥
-IsSaidBeside a place b zones (Compared verdict one_zone) =
-    IsFirstRefusal all_limits b None × IsEqualVerdict (Occurs a) (Occurs b) verdict × (one_zone ≡ zones)
+-- ---- what can be printed
 
--- A states one series, and B another one, which no limit refuses, and this is the verdict on their equality
-pub record IsComparedWith (a : Series) (b : Stated) (verdict : Verdict) : Type 0 where
-  pub series : Series
-  pub second : IsKeySeries b series
-  pub is_verdict : IsEqualVerdict (Occurs a) (Occurs series) verdict
+-- an offset that is told is less than a day
+abbrev pub IsPrintableAhead : Ahead → Type 0
+IsPrintableAhead Utc = ⊤
+IsPrintableAhead (By offset) = IsBelowDay offset
 
--- What is said if A states a series with these zones: the refusal of B, or the verdict, and whether the zones are the same.
-abbrev pub IsSaidWith : Series → List (List ℕ) → Stated → Said → Type 0
-IsSaidWith a zones b (Only side) = ⊥
-IsSaidWith a zones b (Refused A refusal) = ⊥
-IsSaidWith a zones b (Refused B refusal) = IsKeyRefusal b refusal
-IsSaidWith a zones b (Refused Both refusal) = ⊥
-IsSaidWith a zones b (Compared verdict one_zone) = IsComparedWith a b verdict × (one_zone ≡ have_one_zone (zones ++ b.zones))
-
--- what a fault of a key is said as; of out of memory nothing is said
-abbrev pub IsFaultSaid : Side → KeyFault → Said → Type 0
-IsFaultSaid side (key_fault.Refused refusal) said = said ≡ Refused side refusal
-IsFaultSaid side key_fault.NoMemory said = ⊥
-
--- The verdict on the equality of two sketches, over all whole numbers, which names a day up to the greatest, and whether the zones are the same.
-abbrev pub IsCompared : Sketch → Sketch → Bool → Said → Type 0
-IsCompared a b zones (Compared verdict one_zone) =
-    IsEqualVerdict (StandsIn a) (StandsIn b) verdict × NamesUpToMaxDay verdict × (one_zone ≡ zones)
-IsCompared a b zones said = ⊥
+-- the offset of the side that is named, if one is, can be printed
+abbrev pub ArePrintableZones : Zones → Type 0
+ArePrintableZones Local = ⊤
+ArePrintableZones Unknown = ⊤
+ArePrintableZones (Moments ahead only_zones) = IsPrintableAhead ahead
 
 -- what a report says of a key can be printed
 abbrev pub IsPrintableSaid : Said → Type 0
 IsPrintableSaid (Only side) = ⊤
 IsPrintableSaid (Refused side refusal) = ⊤
-IsPrintableSaid (Compared verdict one_zone) = IsPrintable verdict
+IsPrintableSaid (Floating side) = ⊤
+IsPrintableSaid (Compared verdict zones) = IsPrintable verdict × ArePrintableZones zones

@@ -2,13 +2,14 @@
 ghost use Rattle.std.specs.Prelude.{◌≡◌, ◌<◌, ◌++◌, All, IfOk, OnOk};
 ghost use Rattle.std.specs.Fmt.{decimal};
 ghost use Rattle.rr_text.specs.Printed.{IsPrintable};
-ghost use Rattle.rr_trip.specs.Printed.{IsPrintableFurther, asked_byte, asked_text, counts_text, escaped_text, escaped_byte, event_refusal_text, file_refusal_line, further_text, has_number, hex_digit, is_difference, key_refusal_text, key_text, line_text, lines_text, report_text, said_text, verdict_text};
+ghost use Rattle.rr_trip.specs.Printed.{IsPrintableFurther, asked_byte, asked_text, counts_text, escaped_byte, escaped_text, event_refusal_text, file_refusal_line, further_text, has_number, hex_digit, is_difference, key_refusal_text, key_text, line_text, lines_text, report_text, said_text};
 ghost use Rattle.rr_trip.specs.Said.{IsPrintableSaid};
 
-use crate::report::{Counts, Report, ReportLine, has_other_zone, is_equal};
+use crate::report::{Counts, Report, ReportLine, is_equal, is_unsure};
 use crate::said::Said;
+use crate::verdict::push_compared;
 use rr_differ::Further;
-use rr_model::{NoMemory, Refusal, Side, Verdict};
+use rr_model::{NoMemory, Refusal, Side};
 use rr_seam::{FileRefusal, Key, KeyRefusal};
 use rr_text::{push_extended, push_unsigned, side_text};
 use std::alloc::Global;
@@ -144,27 +145,6 @@ fn push_key_refusal(alloc: Global, out: &mut Vec<u8>, refusal: KeyRefusal) -> Re
     }
 }
 
-// The verdict on a key that is printed so.
-fn push_verdict(out: &mut Vec<u8>, name: &[u8], verdict: Verdict) -> Result<(), NoMemory>
-    requires { IsPrintable verdict }
-    ensures { OnOk result (out.new.items ≡ out.old.items ++ verdict_text name.now verdict) }
-{
-    match verdict {
-        Verdict::Yes => {
-            push(out, b"equal ")?;
-            push(out, name)
-        }
-        Verdict::No { kind, at, side } => {
-            push(out, b"differs ")?;
-            push(out, name)?;
-            push(out, b" no ")?;
-            push_extended(out, kind, at)?;
-            push(out, b" ")?;
-            push(out, side_text(side).as_bytes())
-        }
-    }
-}
-
 /// Appends what is said of a key whose printed text is `name`: the line of the report without its line feed.
 pub fn push_said(alloc: Global, out: &mut Vec<u8>, name: &[u8], said: Said) -> Result<(), NoMemory>
     requires { IsPrintableSaid said }
@@ -185,11 +165,13 @@ pub fn push_said(alloc: Global, out: &mut Vec<u8>, name: &[u8], said: Said) -> R
             push(out, b" ")?;
             push_key_refusal(alloc, out, refusal)
         }
-        Said::Compared { verdict, one_zone } => {
-            push_verdict(out, name, verdict)?;
-            let zone: &[u8] = if one_zone { b"" } else { b" zone" };
-            push(out, zone)
+        Said::Floating(side) => {
+            push(out, b"differs ")?;
+            push(out, name)?;
+            push(out, b" floating ")?;
+            push(out, side_text(side).as_bytes())
         }
+        Said::Compared { verdict, zones } => push_compared(out, name, verdict, zones),
     }
 }
 
@@ -211,11 +193,11 @@ pub fn push_further(out: &mut Vec<u8>, further: Further) -> Result<(), NoMemory>
     }
 }
 
-// Whether a line is printed if those of equal keys in the same zones are left out.
+// Whether a line is printed if those of equal keys are left out, unless nobody can tell of one.
 fn is_difference(said: Said) -> bool
     ensures { result ≡ is_difference said }
 {
-    !is_equal(said) || has_other_zone(said)
+    !is_equal(said) || is_unsure(said)
 }
 
 // The line of a key, or nothing where it is left out.
@@ -267,8 +249,8 @@ fn push_counts(out: &mut Vec<u8>, counts: Counts) -> Result<(), NoMemory>
     push(out, b"\n")
 }
 
-/// The report as it is printed: a line for each key, or, with `only_differences`, for each that is not equal or whose zones
-/// differ, and a last line with the counts of all.
+/// The report as it is printed: a line for each key, or, with `only_differences`, for each that is not equal or of which nobody
+/// can tell, and a last line with the counts of all.
 #[tactic(auto, unfolding(crate::specs::Printed::report_text))]
 pub fn print(alloc: Global, only_differences: bool, report: &Report) -> Result<Vec<u8>, NoMemory>
     requires { All (λ line. IsPrintableSaid line.said) report.now.lines.items }

@@ -1,8 +1,8 @@
 // What is said of each key of two calendars, and how many of each there are.
 ghost use Rattle.std.specs.Prelude.{◌≡◌};
-ghost use Rattle.rr_trip.specs.Counts.{count_said, counts_of, differs, has_other_zone, is_counted, is_equal, is_in_utc, is_only, is_refused, status_of};
+ghost use Rattle.rr_trip.specs.Counts.{count_said, counts_of, differs, is_counted, is_equal, is_in_utc, is_only, is_refused, is_unsure, status_of};
 
-use crate::said::Said;
+use crate::said::{Said, Zones};
 use rr_model::{Refusal, Side, Verdict};
 use rr_seam::{Key, KeyRefusal};
 
@@ -29,7 +29,7 @@ pub struct Counts {
     pub events: usize,
     /// Those with equal occurrences.
     pub equal: usize,
-    /// Those with an occurrence that one calendar alone has.
+    /// Those with an occurrence that one calendar alone has, or with a zone in one alone.
     pub differs: usize,
     /// Those that A alone has.
     pub only_a: usize,
@@ -37,7 +37,7 @@ pub struct Counts {
     pub only_b: usize,
     /// Those that are refused.
     pub refused: usize,
-    /// Those that are compared and whose zones differ.
+    /// Those with equal local times of which nobody can tell whether they are the same moments: they are among the equal ones.
     pub zone: usize,
 }
 
@@ -48,7 +48,7 @@ pub enum Status {
     Equal,
     /// A key differs, or stands in one calendar alone.
     Differs,
-    /// Neither, but a key or a file is refused.
+    /// Neither, but a key or a file is refused, or nobody can tell of one that is equal.
     Refused,
 }
 
@@ -70,10 +70,11 @@ fn differs(said: Said) -> bool
 {
     matches!(
         said,
-        Said::Compared {
-            verdict: Verdict::No { .. },
-            ..
-        }
+        Said::Floating(_)
+            | Said::Compared {
+                verdict: Verdict::No { .. },
+                ..
+            }
     )
 }
 
@@ -92,15 +93,15 @@ fn is_refused(said: Said) -> bool
     matches!(said, Said::Refused { .. })
 }
 
-/// Whether the zones of the events of a key differ.
-pub(crate) fn has_other_zone(said: Said) -> bool
-    ensures { result ≡ has_other_zone said }
+/// Whether the events of a key have equal local times, and nobody can tell from the files whether they have the same moments.
+pub(crate) fn is_unsure(said: Said) -> bool
+    ensures { result ≡ is_unsure said }
 {
     matches!(
         said,
         Said::Compared {
-            one_zone: false,
-            ..
+            verdict: Verdict::Yes,
+            zones: Zones::Unknown,
         }
     )
 }
@@ -128,7 +129,7 @@ enum Counted {
     Differs,
     Only(Side),
     Refused,
-    OtherZone,
+    Unsure,
     InUtc,
 }
 
@@ -141,7 +142,7 @@ fn is_counted(counted: Counted, said: Said) -> bool
         Counted::Differs => differs(said),
         Counted::Only(side) => is_only(side, said),
         Counted::Refused => is_refused(said),
-        Counted::OtherZone => has_other_zone(said),
+        Counted::Unsure => is_unsure(said),
         Counted::InUtc => is_in_utc(said),
     }
 }
@@ -176,7 +177,7 @@ impl Report {
             only_a: count_said(lines, Counted::Only(Side::A)),
             only_b: count_said(lines, Counted::Only(Side::B)),
             refused: count_said(lines, Counted::Refused),
-            zone: count_said(lines, Counted::OtherZone),
+            zone: count_said(lines, Counted::Unsure),
         }
     }
 }
@@ -188,7 +189,7 @@ impl Counts {
     {
         if self.differs > 0 || self.only_a > 0 || self.only_b > 0 {
             Status::Differs
-        } else if self.refused > 0 {
+        } else if self.refused > 0 || self.zone > 0 {
             Status::Refused
         } else {
             Status::Equal

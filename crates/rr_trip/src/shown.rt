@@ -1,20 +1,24 @@
 // What is said of the events that are printed by one name, and where they differ.
 ghost use Rattle.std.specs.Prelude.{◌≡◌, ◌++◌, IfOk, OnOk, bytes_eq};
 ghost use Rattle.rr_days.specs.Sequence.{sketch};
-ghost use Rattle.rr_trip.specs.Judged.{IsFoldOf};
 ghost use Rattle.rr_seam.specs.Stated.{calendar_by};
+ghost use Rattle.rr_trip.specs.Pairs.{IsPair, IsSound, days_b};
 ghost use Rattle.rr_trip.specs.Printed.{key_text};
 ghost use Rattle.rr_trip.specs.Report.{indexes_from};
-ghost use Rattle.rr_trip.specs.Shown.{IsPictureBeside, IsPictureFor, IsPictureFrom, IsShownIn, IsShownOf, IsShownSaid, IsTold, IsUnknown, IsUnpainted, are_none, is_key_named, named_part, said_status};
+ghost use Rattle.rr_trip.specs.Shown.{IsPictureOfJudged, IsShownBy, IsShownIn, IsTold, IsToldBy, IsUnknown, are_none, equal_status, is_key_named, named_part, said_status};
+ghost use Rattle.rr_trip.specs.Zoned.{zoned};
 
 use crate::grid::picture;
-use crate::judge::{KeyDays, key_days};
+use crate::known::KnownZones;
+use crate::pair::{Judged, KeyPair, judge_key};
 use crate::printing::{push, push_asked, push_further, push_key, push_said};
 use crate::report::Status;
-use crate::said::{Said, said_of};
+use crate::said::{Said, Zones};
+use crate::zones::said_of;
 use rr_differ::further_differences;
-use rr_model::{NoMemory, Side, Verdict, day_part};
-use rr_seam::{EventFile, Key, KeyFault};
+use rr_model::{NoMemory, Verdict, day_part};
+use rr_seam::{EventFile, Key};
+use rr_true::ZoneNames;
 use std::alloc::Global;
 
 /// What is said of the events of one name.
@@ -67,98 +71,65 @@ fn indexes_named<F: EventFile>(alloc: Global, file: &F, name: &[u8]) -> Result<V
     Ok(indexes)
 }
 
+// How it ends if local times are equal.
+fn equal_status(zones: Zones) -> Status
+    ensures { result ≡ equal_status zones }
+{
+    match zones {
+        Zones::Local | Zones::Moments { .. } => Status::Equal,
+        Zones::Unknown => Status::Refused,
+    }
+}
+
 // How it ends if this is said of one key.
 fn said_status(said: Said) -> Status
     ensures { result ≡ said_status said }
 {
     match said {
-        Said::Only(_) => Status::Differs,
+        Said::Only(_) | Said::Floating(_) => Status::Differs,
         Said::Refused { .. } => Status::Refused,
-        Said::Compared { verdict, .. } => match verdict {
-            Verdict::Yes => Status::Equal,
+        Said::Compared { verdict, zones } => match verdict {
+            Verdict::Yes => equal_status(zones),
             Verdict::No { .. } => Status::Differs,
         },
     }
 }
 
-// No picture of events that are refused.
-fn no_picture(alloc: Global, fault: KeyFault) -> Result<Vec<u8>, NoMemory>
-    ensures { IfOk result (λ text. IsUnpainted fault text.items) }
-{
-    match fault {
-        KeyFault::NoMemory => Err(NoMemory),
-        KeyFault::Refused(_) => Ok(Vec::new(alloc)),
-    }
-}
-
 // How many occurrences exactly one has beside the first, and the picture of the months from a day on.
-fn told(alloc: Global, a: &KeyDays, b: &KeyDays, day: i64) -> Result<Vec<u8>, NoMemory>
-    requires a { IsFoldOf a.now.series (sketch a.now.days) }
-    requires b { IsFoldOf b.now.series (sketch b.now.days) }
-    ensures { IfOk result (λ text. IsTold (sketch a.now.days) (sketch b.now.days) day text.items) }
+fn told(alloc: Global, pair: &KeyPair, day: i64) -> Result<Vec<u8>, NoMemory>
+    requires { IsPair pair.now }
+    ensures { IfOk result (λ text. IsTold (sketch pair.now.a.days) (sketch (days_b pair.now)) day
+        text.items) }
 {
-    let further = further_differences(alloc, &a.days, &b.days)?;
+    let b = pair.days_b();
+    let further = further_differences(alloc, &pair.a.days, b)?;
     let mut text = Vec::new(alloc);
     push_further(&mut text, further)?;
-    let months = picture(alloc, &a.days, &b.days, day)?;
+    let months = picture(alloc, &pair.a.days, b, day)?;
     push(&mut text, &months)?;
     Ok(text)
 }
 
-// What is told of the days of A and of B from a day on; nothing if the events of B are refused.
-fn picture_beside<F: EventFile>(
-    alloc: Global,
-    a: &KeyDays,
-    file: &F,
-    b: &[usize],
-    day: i64,
-) -> Result<Vec<u8>, NoMemory>
-    requires { IsFoldOf a.now.series (sketch a.now.days) }
-    ensures { IfOk result (λ text. IsPictureBeside (sketch a.now.days) (F.stated file.now b.now)
-        day text.items) }
+// What is told of where local times differ, or nothing.
+fn told_of_pair(alloc: Global, pair: &KeyPair) -> Result<Vec<u8>, NoMemory>
+    requires { IsPair pair.now }
+    ensures { IfOk result (λ text. IsToldBy pair.now.local (sketch pair.now.a.days)
+        (sketch (days_b pair.now)) text.items) }
 {
-    match key_days(alloc, file, b) {
-        Ok(b) => told(alloc, a, &b, day),
-        Err(fault) => no_picture(alloc, fault),
-    }
-}
-
-// The picture of the months from a day on; none if the events of either are refused.
-fn picture_from<A: EventFile, B: EventFile>(
-    alloc: Global,
-    old: &A,
-    a: &[usize],
-    new: &B,
-    b: &[usize],
-    day: i64,
-) -> Result<Vec<u8>, NoMemory>
-    ensures { IfOk result (λ text. IsPictureFrom (A.stated old.now a.now) (B.stated new.now b.now)
-        day text.items) }
-{
-    match key_days(alloc, old, a) {
-        Ok(a) => picture_beside(alloc, &a, new, b, day),
-        Err(fault) => no_picture(alloc, fault),
+    match pair.local {
+        Verdict::Yes => Ok(Vec::new(alloc)),
+        Verdict::No { kind, at, .. } => told(alloc, pair, day_part(kind, at)),
     }
 }
 
 // The picture of where the events of a key differ, or nothing.
-fn picture_of<A: EventFile, B: EventFile>(
-    alloc: Global,
-    said: Said,
-    old: &A,
-    a: &[usize],
-    new: &B,
-    b: &[usize],
-) -> Result<Vec<u8>, NoMemory>
-    ensures { IfOk result (λ text. IsPictureFor (A.stated old.now a.now) (B.stated new.now b.now)
-        said text.items) }
+fn picture_of(alloc: Global, judged: &Judged) -> Result<Vec<u8>, NoMemory>
+    requires { IsSound judged.now }
+    ensures { IfOk result (λ text. IsPictureOfJudged judged.now text.items) }
 {
-    match said {
-        Said::Compared {
-            verdict: Verdict::No { kind, at, .. },
-            ..
-        } => picture_from(alloc, old, a, new, b, day_part(kind, at)),
-        _ => Ok(Vec::new(alloc)),
+    match judged {
+        Judged::Told(_) => Ok(Vec::new(alloc)),
+        Judged::Compared(pair) => told_of_pair(alloc, pair),
     }
 }
 
@@ -178,21 +149,23 @@ fn unknown_name(alloc: Global, name: &[u8]) -> Result<Shown, NoMemory>
 }
 
 // What is said of the events of a key that is printed so, of which a calendar has one.
-fn show_key<A: EventFile, B: EventFile>(
+fn show_key<M: ZoneNames, N: ZoneNames>(
     alloc: Global,
-    old: &A,
-    a: &[usize],
-    new: &B,
-    b: &[usize],
+    names_a: &M,
+    names_b: &N,
+    judged: &Judged,
     name: &[u8],
 ) -> Result<Shown, NoMemory>
-    ensures { IfOk result (IsShownSaid (A.stated old.now) a.now (B.stated new.now) b.now name.now) }
+    requires { IsSound judged.now }
+    ensures { IfOk result (IsShownBy (M.meaning names_a.now) (N.meaning names_b.now) judged.now
+        name.now) }
 {
-    let said = said_of(alloc, old, a, new, b)?;
+    let mut known = KnownZones::new(alloc);
+    let said = said_of(alloc, &mut known, names_a, names_b, judged)?;
     let mut text = Vec::new(alloc);
     push_said(alloc, &mut text, name, said)?;
     push(&mut text, b"\n")?;
-    let picture = picture_of(alloc, said, old, a, new, b)?;
+    let picture = picture_of(alloc, judged)?;
     push(&mut text, &picture)?;
     Ok(Shown {
         status: said_status(said),
@@ -211,35 +184,26 @@ fn are_none(a: &[usize], b: &[usize]) -> bool
     }
 }
 
-// What is said of the events of a key that is printed so.
-fn shown_of<A: EventFile, B: EventFile>(
-    alloc: Global,
-    old: &A,
-    a: &[usize],
-    new: &B,
-    b: &[usize],
-    name: &[u8],
-) -> Result<Shown, NoMemory>
-    ensures { IfOk result (IsShownOf (A.stated old.now) a.now (B.stated new.now) b.now name.now) }
-{
-    if are_none(a, b) {
-        return unknown_name(alloc, name);
-    }
-    show_key(alloc, old, a, new, b, name)
-}
-
-/// What is said of the events of two calendars whose key is printed by this name, as in a report; and, if they differ, a picture
-/// of the month of the first counterexample and the two after it. If no event has the name, that, with the name as it is printed.
-pub fn show<A: EventFile, B: EventFile>(
+/// What is said of the events of two calendars whose key is printed by this name, as in a report; and, if their local times
+/// differ, a picture of the month of the first that does and the two after it. If no event has the name, that, with the name as
+/// it is printed.
+pub fn show<A: EventFile, B: EventFile, M: ZoneNames, N: ZoneNames>(
     alloc: Global,
     a: &A,
+    names_a: &M,
     b: &B,
+    names_b: &N,
     name: &[u8],
 ) -> Result<Shown, NoMemory>
-    ensures { IfOk result (IsShownIn (calendar_by (A.keys a.now) (A.stated a.now))
-        (calendar_by (B.keys b.now) (B.stated b.now)) name.now) }
+    ensures { IfOk result (IsShownIn
+        (zoned (calendar_by (A.keys a.now) (A.stated a.now)) (M.meaning names_a.now))
+        (zoned (calendar_by (B.keys b.now) (B.stated b.now)) (N.meaning names_b.now)) name.now) }
 {
     let of_a = indexes_named(alloc, a, name)?;
     let of_b = indexes_named(alloc, b, name)?;
-    shown_of(alloc, a, &of_a, b, &of_b, name)
+    if are_none(&of_a, &of_b) {
+        return unknown_name(alloc, name);
+    }
+    let judged = judge_key(alloc, a, &of_a, b, &of_b)?;
+    show_key(alloc, names_a, names_b, &judged, name)
 }

@@ -39,7 +39,7 @@ returns-in-Ok-clause-accepted c =
     let accepted = c.in_ok-series.ensures.accepted in (
       accepted.0,
       subst (λ (s : Series). IsFoldOf s (sketch c.in-Ok.days)) (sym accepted.0)
-          (folded c.args.series c.in_ok-series.series accepted.0 accepted.1 (sketch c.in-Ok.days) c.requires c.in-Ok.ensures.stands c.in-Ok.ensures.period
+          (folded c.args.series c.in_ok-series.series accepted.0 accepted.1 (sketch c.in-Ok.days) c.requires c.in-Ok.ensures.stands c.in-Ok.ensures.kind c.in-Ok.ensures.period
           c.in-Ok.ensures.judged),
     )
 

@@ -11,3 +11,7 @@ returns g c = record {
   text = search rules;
   picture = c.in_ok-picture.ensures;
 }
+
+pub said_of-requires-clause-known : goal.said_of-requires-clause-known
+said_of-requires-clause-known g c =
+    c.new-known.ensures (g.M.ZoneNames.meaning c.args.names_a.now) (g.N.ZoneNames.meaning c.args.names_b.now)
