@@ -57,7 +57,8 @@ uint32_t rr_answer(const uint8_t *words, size_t words_length, const uint8_t *a, 
  * of events of Microsoft Graph or vCalendar 1.0, as the word for its file states, "graph:a", or otherwise its content tells.
  *
  * words, words_length   the words of that program's command line, in the same form: "a\0b\0--differences" has length 17. The first two are for the
- *                       names of files, and stand for none: they are not empty, do not begin with "--", and are not both "-"
+ *                       names of files, and stand for none: they are not empty, do not begin with "--", and are not both "-".
+ *                       Words with --zones are other words, with RR_USAGE: zones are defined by the two texts alone
  * old_text, old_length  the bytes of the first calendar, A; one has at most 67,108,864, and more are refused as TooLong
  * new_text, new_length  the bytes of the second one, B
  *
@@ -183,7 +184,7 @@ static inline int rr_read_clash(const char *line, size_t length, struct rr_momen
 
 /* What the report on two calendars says of the events of one UID. */
 enum rr_said {
-    RR_SAID_EQUAL,   /* both calendars have the same occurrences of it, for ever */
+    RR_SAID_EQUAL,   /* both calendars have the same occurrences of it, at the same moments, for ever */
     RR_SAID_DIFFERS, /* they do not */
     RR_SAID_ONLY,    /* one calendar alone has events of it */
     RR_SAID_REFUSED  /* its events in one calendar can't be compared */
@@ -195,10 +196,14 @@ struct rr_report_line {
     const char *key;         /* the UID as it is printed, or "line 12" for an event without one, of Graph "event 12" */
     size_t key_length;
     enum rr_side side;       /* unless equal: whose occurrence it is, which calendar has it, or in which it is refused */
-    struct rr_moment moment; /* after RR_SAID_DIFFERS: the first occurrence that only one of them has */
+    struct rr_moment moment; /* after RR_SAID_DIFFERS, unless is_floating: the first occurrence that only one of them has, in local time of that side */
+    int has_offset;          /* moments of UTC were compared: it is known how far that local time is ahead of UTC */
+    int offset;              /* if has_offset: how far, in seconds */
+    int is_floating;         /* after RR_SAID_DIFFERS: the side states neither a zone nor UTC, and the other one does; there is no moment */
     const char *refusal;     /* after RR_SAID_REFUSED: why, as "UtcMoment 124" */
     size_t refusal_length;
-    int has_other_zone;      /* the zones differ, by their names or as UTC beside local time: local times are compared, and zones are not */
+    int has_other_zone;      /* after RR_SAID_EQUAL: local times are equal, but the zones have other names, and not both are defined; after
+                              * RR_SAID_DIFFERS: local times are equal for ever, and the zones alone differ */
 };
 
 /* Reads this text, and says whether it is there. */
@@ -238,6 +243,35 @@ static inline int rr_read_side(const char **text, size_t *left, enum rr_side *si
     return rr_read_byte(text, left, *side == RR_B ? 'B' : 'A');
 }
 
+/* Reads how far the local time before it is ahead of UTC, as "Z" or "+01:00", if it is there, and says whether nothing is wrong with it. */
+static inline int rr_read_offset(const char **text, size_t *left, struct rr_report_line *line)
+{
+    int hours = 0, minutes = 0, seconds = 0, is_behind = *left > 0 && **text == '-';
+    if (rr_read_byte(text, left, 'Z'))
+        return line->has_offset = 1;
+    if (!is_behind && (*left == 0 || **text != '+'))
+        return 1;
+    rr_read_byte(text, left, is_behind ? '-' : '+');
+    if (!(rr_read_digits(text, left, 2, &hours) && rr_read_byte(text, left, ':') && rr_read_digits(text, left, 2, &minutes)))
+        return 0;
+    if (rr_read_byte(text, left, ':') && !rr_read_digits(text, left, 2, &seconds))
+        return 0;
+    line->offset = (hours * 60 + minutes) * 60 + seconds;
+    if (is_behind)
+        line->offset = -line->offset;
+    return line->has_offset = 1;
+}
+
+/* Reads what differs: the first moment, or that one side has no zone. */
+static inline int rr_read_difference(const char **text, size_t *left, struct rr_report_line *line)
+{
+    line->is_floating = rr_read_text(text, left, " floating ");
+    if (!line->is_floating && !(rr_read_text(text, left, " no ") && rr_read_moment(text, left, &line->moment) &&
+                                rr_read_offset(text, left, line) && rr_read_byte(text, left, ' ')))
+        return 0;
+    return rr_read_side(text, left, &line->side);
+}
+
 /* Reads what stands in a line behind its first word. */
 static inline int rr_read_said(const char **text, size_t *left, struct rr_report_line *line)
 {
@@ -251,8 +285,7 @@ static inline int rr_read_said(const char **text, size_t *left, struct rr_report
         *text += *left, *left = 0;
         return 1;
     }
-    if (line->said == RR_SAID_DIFFERS && !(rr_read_text(text, left, " no ") && rr_read_moment(text, left, &line->moment) &&
-                                           rr_read_byte(text, left, ' ') && rr_read_side(text, left, &line->side)))
+    if (line->said == RR_SAID_DIFFERS && !rr_read_difference(text, left, line))
         return 0;
     line->has_other_zone = line->said != RR_SAID_ONLY && rr_read_text(text, left, " zone");
     return 1;

@@ -28,12 +28,20 @@ static void tell(const struct rr_report_line *line)
     printf("%.*s: ", (int)line->key_length, line->key);
     switch (line->said) {
     case RR_SAID_EQUAL:
-        printf("the same in both, in another zone\n");
+        printf("the same local times in both, in zones of other names\n");
         break;
     case RR_SAID_DIFFERS:
+        if (line->is_floating) {
+            printf("%s has no zone for it, and the other one has\n", calendars[line->side]);
+            break;
+        }
         printf("only %s has %lld-%02d-%02d", calendars[line->side], (long long)first->year, first->month, first->day);
         if (!first->is_date)
             printf(" at %02d:%02d:%02d", first->hour, first->minute, first->second);
+        if (line->has_offset)
+            printf(", %d minutes ahead of UTC", line->offset / 60);
+        if (line->has_other_zone)
+            printf("; the zone alone is another one");
         printf("\n");
         break;
     case RR_SAID_ONLY:

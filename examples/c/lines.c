@@ -52,30 +52,41 @@ struct report_row {
     struct rr_moment moment;
     const char *refusal;
     int has_other_zone;
+    int has_offset;
+    int offset;
+    int is_floating;
 };
 
 static const struct report_row report_rows[] = {
-    { "equal a@b\n", 1, RR_SAID_EQUAL, "a@b", RR_A, { 0, 0, 0, 0, 0, 0, 0 }, "", 0 },
-    { "equal zone zone\n", 1, RR_SAID_EQUAL, "zone", RR_A, { 0, 0, 0, 0, 0, 0, 0 }, "", 1 },
-    { "equal line 12 zone", 1, RR_SAID_EQUAL, "line 12", RR_A, { 0, 0, 0, 0, 0, 0, 0 }, "", 1 },
-    { "equal line zone\n", 1, RR_SAID_EQUAL, "line", RR_A, { 0, 0, 0, 0, 0, 0, 0 }, "", 1 },
-    { "differs u no 2024-06-28 A\nequal v\n", 1, RR_SAID_DIFFERS, "u", RR_A, { 2024, 6, 28, 1, 0, 0, 0 }, "", 0 },
-    { "differs no no 2024-06-28T09:30:00 B zone\n", 1, RR_SAID_DIFFERS, "no", RR_B, { 2024, 6, 28, 0, 9, 30, 0 }, "", 1 },
-    { "only A line 3\n", 1, RR_SAID_ONLY, "line 3", RR_A, { 0, 0, 0, 0, 0, 0, 0 }, "", 0 },
-    { "only B event 8\n", 1, RR_SAID_ONLY, "event 8", RR_B, { 0, 0, 0, 0, 0, 0, 0 }, "", 0 },
-    { "equal event zone\n", 1, RR_SAID_EQUAL, "event", RR_A, { 0, 0, 0, 0, 0, 0, 0 }, "", 1 },
-    { "refused event 7 B NoMaster 7\n", 1, RR_SAID_REFUSED, "event 7", RR_B, { 0, 0, 0, 0, 0, 0, 0 }, "NoMaster 7", 0 },
-    { "only B B\n", 1, RR_SAID_ONLY, "B", RR_B, { 0, 0, 0, 0, 0, 0, 0 }, "", 0 },
-    { "refused A B UtcMoment 124\n", 1, RR_SAID_REFUSED, "A", RR_B, { 0, 0, 0, 0, 0, 0, 0 }, "UtcMoment 124", 0 },
-    { "refused line 7 A NoStart 7\n", 1, RR_SAID_REFUSED, "line 7", RR_A, { 0, 0, 0, 0, 0, 0, 0 }, "NoStart 7", 0 },
-    { "refused B BadLine 3\n", 0, RR_SAID_EQUAL, "", RR_A, { 0, 0, 0, 0, 0, 0, 0 }, "", 0 },
-    { "refused A NoEvents\n", 0, RR_SAID_EQUAL, "", RR_A, { 0, 0, 0, 0, 0, 0, 0 }, "", 0 },
-    { "events 0 equal 0 differs 0 only-A 0 only-B 0 refused 0\n", 0, RR_SAID_EQUAL, "", RR_A, { 0, 0, 0, 0, 0, 0, 0 }, "", 0 },
-    { "equal \n", 0, RR_SAID_EQUAL, "", RR_A, { 0, 0, 0, 0, 0, 0, 0 }, "", 0 },
-    { "equal a b\n", 0, RR_SAID_EQUAL, "", RR_A, { 0, 0, 0, 0, 0, 0, 0 }, "", 0 },
-    { "only C a\n", 0, RR_SAID_EQUAL, "", RR_A, { 0, 0, 0, 0, 0, 0, 0 }, "", 0 },
-    { "differs u no 2024-06-28 both\n", 0, RR_SAID_EQUAL, "", RR_A, { 0, 0, 0, 0, 0, 0, 0 }, "", 0 },
-    { "", 0, RR_SAID_EQUAL, "", RR_A, { 0, 0, 0, 0, 0, 0, 0 }, "", 0 },
+    { "equal a@b\n", 1, RR_SAID_EQUAL, "a@b", RR_A, { 0, 0, 0, 0, 0, 0, 0 }, "", 0, 0, 0, 0 },
+    { "equal zone zone\n", 1, RR_SAID_EQUAL, "zone", RR_A, { 0, 0, 0, 0, 0, 0, 0 }, "", 1, 0, 0, 0 },
+    { "equal line 12 zone", 1, RR_SAID_EQUAL, "line 12", RR_A, { 0, 0, 0, 0, 0, 0, 0 }, "", 1, 0, 0, 0 },
+    { "equal line zone\n", 1, RR_SAID_EQUAL, "line", RR_A, { 0, 0, 0, 0, 0, 0, 0 }, "", 1, 0, 0, 0 },
+    { "differs u no 2024-06-28 A\nequal v\n", 1, RR_SAID_DIFFERS, "u", RR_A, { 2024, 6, 28, 1, 0, 0, 0 }, "", 0, 0, 0, 0 },
+    { "differs no no 2024-06-28T09:30:00 B zone\n", 1, RR_SAID_DIFFERS, "no", RR_B, { 2024, 6, 28, 0, 9, 30, 0 }, "", 1, 0, 0, 0 },
+    { "differs u no 2024-04-01T09:00:00+02:00 A\n", 1, RR_SAID_DIFFERS, "u", RR_A, { 2024, 4, 1, 0, 9, 0, 0 }, "", 0, 1, 7200, 0 },
+    { "differs u no 2024-04-01T09:00:00-03:30 B zone\n", 1, RR_SAID_DIFFERS, "u", RR_B, { 2024, 4, 1, 0, 9, 0, 0 }, "", 1, 1, -12600, 0 },
+    { "differs u no 2024-04-01T09:00:00Z A\n", 1, RR_SAID_DIFFERS, "u", RR_A, { 2024, 4, 1, 0, 9, 0, 0 }, "", 0, 1, 0, 0 },
+    { "differs u no 2024-04-01T09:00:00+00:53:28 A\n", 1, RR_SAID_DIFFERS, "u", RR_A, { 2024, 4, 1, 0, 9, 0, 0 }, "", 0, 1, 3208, 0 },
+    { "differs u floating B\n", 1, RR_SAID_DIFFERS, "u", RR_B, { 0, 0, 0, 0, 0, 0, 0 }, "", 0, 0, 0, 1 },
+    { "differs floating floating A\n", 1, RR_SAID_DIFFERS, "floating", RR_A, { 0, 0, 0, 0, 0, 0, 0 }, "", 0, 0, 0, 1 },
+    { "differs u no 2024-04-01T09:00:00+2 A\n", 0, RR_SAID_EQUAL, "", RR_A, { 0, 0, 0, 0, 0, 0, 0 }, "", 0, 0, 0, 0 },
+    { "differs u floating\n", 0, RR_SAID_EQUAL, "", RR_A, { 0, 0, 0, 0, 0, 0, 0 }, "", 0, 0, 0, 0 },
+    { "only A line 3\n", 1, RR_SAID_ONLY, "line 3", RR_A, { 0, 0, 0, 0, 0, 0, 0 }, "", 0, 0, 0, 0 },
+    { "only B event 8\n", 1, RR_SAID_ONLY, "event 8", RR_B, { 0, 0, 0, 0, 0, 0, 0 }, "", 0, 0, 0, 0 },
+    { "equal event zone\n", 1, RR_SAID_EQUAL, "event", RR_A, { 0, 0, 0, 0, 0, 0, 0 }, "", 1, 0, 0, 0 },
+    { "refused event 7 B NoMaster 7\n", 1, RR_SAID_REFUSED, "event 7", RR_B, { 0, 0, 0, 0, 0, 0, 0 }, "NoMaster 7", 0, 0, 0, 0 },
+    { "only B B\n", 1, RR_SAID_ONLY, "B", RR_B, { 0, 0, 0, 0, 0, 0, 0 }, "", 0, 0, 0, 0 },
+    { "refused A B UtcMoment 124\n", 1, RR_SAID_REFUSED, "A", RR_B, { 0, 0, 0, 0, 0, 0, 0 }, "UtcMoment 124", 0, 0, 0, 0 },
+    { "refused line 7 A NoStart 7\n", 1, RR_SAID_REFUSED, "line 7", RR_A, { 0, 0, 0, 0, 0, 0, 0 }, "NoStart 7", 0, 0, 0, 0 },
+    { "refused B BadLine 3\n", 0, RR_SAID_EQUAL, "", RR_A, { 0, 0, 0, 0, 0, 0, 0 }, "", 0, 0, 0, 0 },
+    { "refused A NoEvents\n", 0, RR_SAID_EQUAL, "", RR_A, { 0, 0, 0, 0, 0, 0, 0 }, "", 0, 0, 0, 0 },
+    { "events 0 equal 0 differs 0 only-A 0 only-B 0 refused 0\n", 0, RR_SAID_EQUAL, "", RR_A, { 0, 0, 0, 0, 0, 0, 0 }, "", 0, 0, 0, 0 },
+    { "equal \n", 0, RR_SAID_EQUAL, "", RR_A, { 0, 0, 0, 0, 0, 0, 0 }, "", 0, 0, 0, 0 },
+    { "equal a b\n", 0, RR_SAID_EQUAL, "", RR_A, { 0, 0, 0, 0, 0, 0, 0 }, "", 0, 0, 0, 0 },
+    { "only C a\n", 0, RR_SAID_EQUAL, "", RR_A, { 0, 0, 0, 0, 0, 0, 0 }, "", 0, 0, 0, 0 },
+    { "differs u no 2024-06-28 both\n", 0, RR_SAID_EQUAL, "", RR_A, { 0, 0, 0, 0, 0, 0, 0 }, "", 0, 0, 0, 0 },
+    { "", 0, RR_SAID_EQUAL, "", RR_A, { 0, 0, 0, 0, 0, 0, 0 }, "", 0, 0, 0, 0 },
 };
 
 static int is_same(const struct rr_moment *a, const struct rr_moment *b)
@@ -99,7 +110,8 @@ static int is_read(const struct report_row *row)
         return 0;
     return !row->is_line || (line.said == row->said && is_text(line.key, line.key_length, row->key) && line.side == row->side &&
                              is_same(&line.moment, &row->moment) && is_text(line.refusal, line.refusal_length, row->refusal) &&
-                             line.has_other_zone == row->has_other_zone);
+                             line.has_other_zone == row->has_other_zone && line.has_offset == row->has_offset &&
+                             line.offset == row->offset && line.is_floating == row->is_floating);
 }
 
 int main(void)

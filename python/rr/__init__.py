@@ -486,11 +486,13 @@ def calendars(old: Calendar, new: Calendar, offset: datetime.timedelta | None = 
 def calendars(
     old: Calendar, new: Calendar, offset: datetime.timedelta | None = None, show: Key | None = None, differences: bool = False
 ) -> Report | Shown:
-    """What is said of two calendars, as docs/CALENDARS.md has it: each event is found again by its UID. Moments in UTC beside a local start
-    are read by the zones of the calendar, and those that no zone turns by the offset, which says how far local time is ahead of UTC. With
-    differences the lines of equal events in the same zones are left out. With show only the events of that UID are asked for, and the months
-    from their first difference on are painted; it is said how many differences more there are, and until when. A calendar that can't be read
-    as a whole is Refused, and a UID that neither has is a KeyError.
+    """What is said of two calendars, as docs/CALENDARS.md has it: each event is found again by its UID. Events are compared by their moments if
+    the zones of both sides are defined in the two calendars; a file of further zones, as the program takes, is not for this call. Moments in UTC
+    beside a local start are read by the zones of the calendar, and those that no zone turns by the offset, which says how far local time is ahead
+    of UTC, also for events without a zone. With differences the lines of equal events are left out, but not those whose zones are not known.
+    With show only the events of that UID are asked for, and the months from the first difference of their local times on are painted; it is said
+    how many differences more there are, and until when. A calendar that can't be read as a whole is Refused, and a UID that neither has is a
+    KeyError.
 
     >>> board = "BEGIN:VEVENT\\nUID:board\\nDTSTART;VALUE=DATE:20240105\\nRRULE:FREQ=MONTHLY\\nEND:VEVENT\\n"
     >>> lunch = "BEGIN:VEVENT\\nUID:lunch\\nDTSTART:20240105T123000\\nEND:VEVENT\\n"

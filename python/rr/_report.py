@@ -1,6 +1,7 @@
 """What is said of two whole calendars, in types."""
 from __future__ import annotations
 
+import datetime
 import os
 import re
 from dataclasses import dataclass
@@ -39,13 +40,16 @@ class ReportLine:
     """What is said of the events of one UID.
 
     key         the UID as the file has it, or the line or the EventNumber of an event without one
-    said        'equal': both have the same occurrences; 'differs': they do not; 'only': one calendar alone has events of it; 'refused': they can't
-                be compared
+    said        'equal': both have the same occurrences, at the same moments; 'differs': they do not; 'only': one calendar alone has events of it;
+                'refused': they can't be compared
     side        unless equal: 'A' is the old calendar, 'B' the new one. Whose occurrence it is, which has the events, or in which they are refused
-    moment      if they differ: the first occurrence that only one of them has, as a date or a moment of the local clock
+    moment      if they differ: the first occurrence that only one of them has, as a date or a moment of the local clock of that side, which is aware
+                if the zones of both are known
     refusal     if they are refused: the name. docs/REFUSALS.md and docs/CALENDARS.md say of each name what to do
     place       if they are refused: the number of the line, of Graph that of the event, or of the rule if they are NotSynchronised
-    other_zone  the zones differ, by their names or as UTC beside local time: local times are compared, and zones are not
+    other_zone  of equal events: local times are equal, but their zones have other names, and not both are defined, so nobody can tell more; if they
+                differ: local times are equal for ever, and the zones alone differ
+    floating    they differ since those of the side state neither a zone nor UTC, and the others do: there is no moment
     """
 
     key: Key
@@ -55,12 +59,12 @@ class ReportLine:
     refusal: str | None = None
     place: int | None = None
     other_zone: bool = False
+    floating: bool = False
 
 
 @dataclass(frozen=True)
 class Counts:
-    """How many UIDs there are, and of how many each is said; other_zone counts those of equal and differs whose zones differ, by their names or
-    as UTC beside local time."""
+    """How many UIDs there are, and of how many each is said; other_zone counts those of equal whose zones are not known to be one."""
 
     events: int
     equal: int
@@ -73,13 +77,14 @@ class Counts:
 
 @dataclass(frozen=True)
 class Report:
-    """What is said of two calendars: a line for each UID, in the order of their bytes, and the counts. It is true in a condition if all are equal."""
+    """What is said of two calendars: a line for each UID, in the order of their bytes, and the counts. It is true in a condition if all are equal, and their
+    zones are known to be."""
 
     lines: tuple[ReportLine, ...]
     counts: Counts
 
     def __bool__(self) -> bool:
-        return self.counts.equal == self.counts.events
+        return self.counts.equal == self.counts.events and not self.counts.other_zone
 
 
 @dataclass(frozen=True)
@@ -99,14 +104,15 @@ class More:
 @dataclass(frozen=True)
 class Shown:
     """What is said of the events of one UID, and, if they differ, the months from the first difference on, as the program paints them, and how
-    many differences more there are; otherwise the picture is empty, and more is None. It is true in a condition if they are equal."""
+    many differences more there are; otherwise the picture is empty, and more is None. It is true in a condition if they are equal, and
+    their zones are known to be."""
 
     line: ReportLine
     picture: str
     more: More | None = None
 
     def __bool__(self) -> bool:
-        return self.line.said == "equal"
+        return self.line.said == "equal" and not self.line.other_zone
 
 
 def calendar_of(calendar: Calendar) -> bytes:
@@ -146,7 +152,7 @@ def _uid_of(printed: str) -> str:
 _KEY = r"(?:line (?P<line>[0-9]+)|event (?P<event>[0-9]+)|(?P<uid>\S+))"
 _FORMS: list[tuple[Said, str]] = [
     ("equal", f"equal {_KEY}(?P<zone> zone)?"),
-    ("differs", f"differs {_KEY} no (?P<moment>\\S+) (?P<side>[AB])(?P<zone> zone)?"),
+    ("differs", f"differs {_KEY} (?:no (?P<moment>\\S+)|(?P<floating>floating)) (?P<side>[AB])(?P<zone> zone)?"),
     ("only", f"only (?P<side>[AB]) {_KEY}"),
     ("refused", f"refused {_KEY} (?P<side>[AB]) (?P<refusal>[A-Za-z]+(?: [^ 0-9]\\S*)*) (?P<place>[0-9]+)"),
 ]
@@ -156,7 +162,9 @@ def line_of(text: str) -> ReportLine | None:
     """A line of a report, or None if it is none of a UID.
 
     >>> line_of("differs oncall@team.example no 2024-06-28 A zone")
-    ReportLine(key='oncall@team.example', said='differs', side='A', moment=datetime.date(2024, 6, 28), refusal=None, place=None, other_zone=True)
+    ReportLine(key='oncall@team.example', said='differs', side='A', moment=datetime.date(2024, 6, 28), refusal=None, place=None, other_zone=True, floating=False)
+    >>> line_of("differs u no 2024-04-01T09:00:00+02:00 A").moment.isoformat(), line_of("differs u floating B").floating
+    ('2024-04-01T09:00:00+02:00', True)
     >>> line_of("only B line 12").key, line_of("only B event 12").key
     (12, EventNumber(12))
     >>> line_of("refused u B BadMember recurrence 3").refusal
@@ -176,11 +184,29 @@ def _line(said: Said, it: dict[str, str | None]) -> ReportLine:
         _uid_of(uid) if uid is not None else EventNumber(event) if event is not None else int(line or 0),
         said,
         None if side is None else "A" if side == "A" else "B",
-        None if moment is None else moment_of(moment),
+        None if moment is None else told_moment(moment),
         it.get("refusal"),
         None if place is None else int(place),
         it.get("zone") is not None,
+        it.get("floating") is not None,
     )
+
+
+def told_moment(text: str) -> Moment:
+    """A date or moment as a line tells it: aware if it is known how far its local time is ahead of UTC.
+
+    >>> told_moment("2024-04-01T07:00:00Z").isoformat(), told_moment("2024-04-01T09:00:00-03:30").isoformat()
+    ('2024-04-01T07:00:00+00:00', '2024-04-01T09:00:00-03:30')
+    >>> told_moment("2024-04-01"), told_moment("10000-04-01T09:00:00+02:00")
+    (datetime.date(2024, 4, 1), '10000-04-01T09:00:00+02:00')
+    """
+    it = re.fullmatch(r"(.+T[0-9:]+)(?:Z|([-+])([0-9]{2}):([0-9]{2})(?::([0-9]{2}))?)", text)
+    if it is None:
+        return moment_of(text)
+    hours, minutes, seconds = (int(it[place] or 0) for place in (3, 4, 5))
+    ahead = datetime.timedelta(hours=hours, minutes=minutes, seconds=seconds)
+    local = moment_of(it[1], datetime.timezone(-ahead if it[2] == "-" else ahead))
+    return text if isinstance(local, str) else local
 
 
 def report_of(text: str) -> Report | None:

@@ -20,7 +20,8 @@ fn outcome_of(alloc: Global, words: &str, old: &[u8], new: &[u8]) -> Result<Outc
 /// What `rr-calendars` answers to words over the bytes of both files, in `out`, and how many bytes that are, in `length`.
 ///
 /// The words are those of the program's command line, in UTF-8, with a zero byte between each two. The names of the files count only in
-/// that they are not empty, do not begin with `--`, and are not both `-`.
+/// that they are not empty, do not begin with `--`, and are not both `-`. There is no third text: words with `--zones` are other words, so what
+/// defines zones stands in one of the two.
 ///
 /// It returns the program's exit status: 0 if all events are equal, 1 if one differs or stands in one file alone, 2 if none does but one or a
 /// file is refused, 3 for other words, 6 out of memory, and 7 for words that are no text. It returns 8 where `out` is too small: then

@@ -1,11 +1,11 @@
 -- The statuses that an answer can have.
 use Rattle.std.proofs.Common.{ℕ, Bool, List, Option, Some, None, Result, Ok, Err, sym, subst}
-use Rattle.rr_seam.specs.Stated.{Calendar}
 use Rattle.rr_seam.specs.declared.file.FileRefusal.{FileRefusal}
+use Rattle.rr_trip.specs.Zoned.{ZonedCalendar}
 use Rattle.rr_trip.specs.declared.report.Status.{Status as Ending}
 use Rattle.rr_trip.specs.declared.report.Status.TheVariants as ending
 use Rattle.rr_compare.specs.Answer.{Answer, IsAnswer, IsCompared, IsComparedWith, IsOfBoth, status_by}
-use Rattle.rr_compare.specs.Calendars.{file_calendar}
+use Rattle.rr_compare.specs.Calendars.{Texts, new_calendar, old_calendar}
 use Rattle.rr_compare.specs.Words.{Asked, Request, comparison, help}
 use Rattle.rr_compare.specs.declared.status.Status.{Status}
 use Rattle.rr_calendars.specs.Run.{IsEnding}
@@ -16,22 +16,21 @@ ending_by request ending.Differs = tt
 ending_by request ending.Refused = tt
 
 module _ (request : Request) (x : Answer) where
-  of_both : (show : Option (List ℕ)) (only_differences : Bool) (a b : Calendar) → IsOfBoth show only_differences a b x
+  of_both : (show : Option (List ℕ)) (only_differences : Bool) (a b : ZonedCalendar) → IsOfBoth show only_differences a b x
       → IsEnding (Some (comparison request)) x.status
   of_both None only_differences a b h = subst (λ (y : Answer). IsEnding (Some (comparison request)) y.status) (sym h.is) (ending_by request _)
   of_both (Some name) only_differences a b h =
       subst (λ (y : Answer). IsEnding (Some (comparison request)) y.status) (sym h.is) (ending_by request h.shown.status)
 
-  compared_with : (a : Calendar) (b : Result Calendar FileRefusal) → IsComparedWith request a b x → IsEnding (Some (comparison request)) x.status
+  compared_with : (a : ZonedCalendar) (b : Result ZonedCalendar FileRefusal) → IsComparedWith request a b x → IsEnding (Some (comparison request)) x.status
   compared_with a (Ok b) h = of_both request.show request.only_differences a b h
   compared_with a (Err refusal) h = subst (λ (y : Answer). IsEnding (Some (comparison request)) y.status) (sym h) tt
 
-  compared_by : (a b : Result Calendar FileRefusal) → IsCompared request a b x → IsEnding (Some (comparison request)) x.status
+  compared_by : (a b : Result ZonedCalendar FileRefusal) → IsCompared request a b x → IsEnding (Some (comparison request)) x.status
   compared_by (Ok a) b h = compared_with a b h
   compared_by (Err refusal) b h = subst (λ (y : Answer). IsEnding (Some (comparison request)) y.status) (sym h) tt
 
-pub answer_ending : (asked : Option Asked) (old new : List ℕ) (x : Answer) → IsAnswer asked (old, new) x → IsEnding asked x.status
-answer_ending None old new x h = subst (λ (s : Status). IsEnding None s) (sym h) tt
-answer_ending (Some help) old new x h = subst (λ (s : Status). IsEnding (Some help) s) (sym h) tt
-answer_ending (Some (comparison request)) old new x h =
-    compared_by request x (file_calendar request.old request.offset old) (file_calendar request.new request.offset new) h
+pub answer_ending : (asked : Option Asked) (texts : Texts) (x : Answer) → IsAnswer asked texts x → IsEnding asked x.status
+answer_ending None texts x h = subst (λ (s : Status). IsEnding None s) (sym h) tt
+answer_ending (Some help) texts x h = subst (λ (s : Status). IsEnding (Some help) s) (sym h) tt
+answer_ending (Some (comparison request)) texts x h = compared_by request x (old_calendar request texts) (new_calendar request texts) h

@@ -3,6 +3,7 @@ use Rattle.std.specs.Prelude.{◌≡◌, ◌⊎◌, ℕ, ◌+◌, List, [], ◌�
 use Rattle.rr_io.specs.Outside.{Appended, AppendedPart, RoseOrIsLast}
 use Rattle.rr_seam.specs.declared.file.TheConstants.{MAX_FILE}
 use Rattle.rr_compare.specs.Answer.{Answer, IsAnswer}
+use Rattle.rr_compare.specs.Calendars.{Texts}
 use Rattle.rr_compare.specs.Words.{Asked, comparison, help}
 use Rattle.rr_compare.specs.declared.status.Status.{Status}
 use Rattle.rr_compare.specs.declared.status.Status.TheVariants.{Equal, Differs, Refused, Usage, ReadFault, WriteFault, NoMemory}
@@ -21,26 +22,41 @@ IsEnding asked status = ⊥
 abbrev pub content : (List ℕ → Option (List ℕ)) → List ℕ → Option (List ℕ)
 content held name = option_map (take (MAX_FILE + 1)) (held name)
 
+-- the bytes of a file that is named, or none if no file is
+abbrev pub content_named : (List ℕ → Option (List ℕ)) → Option (List ℕ) → Option (List ℕ)
+content_named held None = Some []
+content_named held (Some name) = content held name
+
+-- the bytes of the files, if they are all told
+abbrev pub texts_by : Option (List ℕ) → Option (List ℕ) → Option (List ℕ) → Option Texts
+texts_by old new zones =
+    option_and_then (λ a. option_and_then (λ b. option_map (λ c. record { old = a; new = b; zones = c }) zones) new) old
+
 -- the bytes of the files; None where the source does not tell them
-abbrev pub contents : Option Asked → (List ℕ → Option (List ℕ)) → Option (List ℕ × List ℕ)
-contents None held = Some ([], [])
-contents (Some help) held = Some ([], [])
+abbrev pub contents : Option Asked → (List ℕ → Option (List ℕ)) → Option Texts
+contents None held = Some (record { old = []; new = []; zones = [] })
+contents (Some help) held = Some (record { old = []; new = []; zones = [] })
 contents (Some (comparison request)) held =
-    option_and_then (λ old. option_map (λ new. (old, new)) (content held request.new.name)) (content held request.old.name)
+    texts_by (content held request.old.name) (content held request.new.name) (content_named held request.zones)
 
 -- the bytes are those of the files that are asked for, where the source tells them
-abbrev pub AreFilesOf : Option Asked → (List ℕ → Option (List ℕ)) → List ℕ → List ℕ → Type 0
-AreFilesOf asked held old new = IfSome {T = List ℕ × List ℕ} (contents asked held) (λ (files : List ℕ × List ℕ). (old, new) ≡ files)
+abbrev pub AreFilesOf : Option Asked → (List ℕ → Option (List ℕ)) → Texts → Type 0
+AreFilesOf asked held texts = IfSome (contents asked held) (λ files. texts ≡ files)
 
 -- the answer is that to what is asked, over the files that the source holds, where the source tells them
 abbrev pub IsAnswerTo : Option Asked → (List ℕ → Option (List ℕ)) → Answer → Type 0
 IsAnswerTo asked held answer = IfSome (contents asked held) (λ files. IsAnswer asked files answer)
 
+-- the name is this one, if there is one
+abbrev pub IsNamedFile : Option (List ℕ) → List ℕ → Type 0
+IsNamedFile None name = ⊥
+IsNamedFile (Some file) name = name ≡ file
+
 -- the name is that of a file that is asked for
 abbrev pub IsFileOf : Option Asked → List ℕ → Type 0
 IsFileOf None name = ⊥
 IsFileOf (Some help) name = ⊥
-IsFileOf (Some (comparison request)) name = (name ≡ request.old.name) ⊎ (name ≡ request.new.name)
+IsFileOf (Some (comparison request)) name = (name ≡ request.old.name) ⊎ (name ≡ request.new.name) ⊎ IsNamedFile request.zones name
 
 -- ---- what a run leaves
 
@@ -60,6 +76,10 @@ EndsAnswered status in_utc asked held old new = IfSome (contents asked held) (λ
 abbrev pub HasAnswerStatus : Status → Option Asked → (List ℕ → Option (List ℕ)) → Type 0
 HasAnswerStatus status asked held =
     IfSome (contents asked held) (λ files. (status ≡ NoMemory) ⊎ ((answer : Answer) × IsAnswer asked files answer × (status ≡ answer.status)))
+
+-- the names of failed fetches gained this one, if there is one
+abbrev pub GainsName : Option (List ℕ) → List (List ℕ) → List (List ℕ) → Type 0
+GainsName file failed failed' = (name : List ℕ) × IsNamedFile file name × (failed' ≡ failed ++ name ∷ [])
 
 -- the names of failed fetches gained that of a file
 abbrev pub GainsFile : {S : Type 0} → Option Asked → (S → List (List ℕ)) → S → S → Type 0

@@ -14,7 +14,7 @@ pub use program::run;
 use progress::Progress;
 pub use rr_compare::Status;
 use rr_compare::{Asked, Language, parse};
-use rr_io::{HostSink, HostSource, NotRun};
+use rr_io::{HostSink, HostSource, NotRun, WriteFault, put_note};
 use rr_notes::{
     NO_MEMORY, NO_TEXT, WRITE_FAULT, note_on_calendar_refusal, note_on_calendar_words,
     note_on_file, note_on_utc, note_on_zones_of_file,
@@ -26,11 +26,11 @@ use std::io::IsTerminal;
 use std::process::ExitCode;
 use taken::note_languages;
 
-// What is noted of how a run ended, by the first bytes of what it put.
-fn fixed_note(status: Status, answer: &[u8]) -> Option<&'static str> {
+// What is noted of how a run ended, by what the sink took. If the reader of the output has gone, nothing is.
+fn fixed_note(status: Status, sink: &HostSink<&HostRuntime>) -> Option<&'static str> {
     match status {
-        Status::Refused => note_on_calendar_refusal(answer),
-        Status::WriteFault => Some(WRITE_FAULT),
+        Status::Refused => note_on_calendar_refusal(sink.front()),
+        Status::WriteFault if sink.failure() != Some(WriteFault::ReaderGone) => Some(WRITE_FAULT),
         Status::NoMemory => Some(NO_MEMORY),
         _ => None,
     }
@@ -54,9 +54,9 @@ fn made_note(
     }
 }
 
-// Notes on standard error. What can't be written is left out.
+// Notes on standard error.
 fn note(rt: &HostRuntime, text: &str) {
-    let _ = eprintln!(rt; "rr-calendars: {text}");
+    put_note(rt, "rr-calendars", text)
 }
 
 // Notes which zone of each file turns nothing, and why.
@@ -79,23 +79,14 @@ fn was_compared(status: Status) -> bool {
     matches!(status, Status::Equal | Status::Differs | Status::Refused)
 }
 
-// Runs the words of the system over its files and standard streams, and notes what to do about the answer.
-fn run_on_host(rt: &HostRuntime) -> Result<Ended, NotRun> {
+// Runs these words over the files and standard streams of the system, and notes what to do about the answer.
+fn run_words(rt: &HostRuntime, words: &[&str]) -> Ended {
     let alloc = rt.alloc();
-    let mut words = Vec::new(alloc);
-    for word in env::args(rt)?.skip(1) {
-        words.push(word)?;
-    }
-    let mut texts = Vec::new(alloc);
-    for word in words.as_slice() {
-        texts.push(word.as_str())?;
-    }
     let mut source = HostSource::new(alloc, rt);
     let mut sink = HostSink::new(rt);
     let mut progress = Progress::new(rt, rt.stderr().is_terminal());
-    let words = texts.as_slice();
     let ended = run(alloc, words, &mut source, &mut sink, &mut progress);
-    if let Some(text) = fixed_note(ended.status, sink.front()) {
+    if let Some(text) = fixed_note(ended.status, &sink) {
         note(rt, text);
     }
     if let Ok(Some(text)) = made_note(rt, ended.status, words, &source) {
@@ -107,13 +98,32 @@ fn run_on_host(rt: &HostRuntime) -> Result<Ended, NotRun> {
     if was_compared(ended.status) {
         note_languages(rt, words);
     }
-    Ok(ended)
+    ended
+}
+
+// The words of the system behind the name of the program.
+fn words_of_system(rt: &HostRuntime) -> Result<Vec<String>, NotRun> {
+    let mut words = Vec::new(rt.alloc());
+    for word in env::args(rt)?.skip(1) {
+        words.push(word)?;
+    }
+    Ok(words)
+}
+
+// Runs the words of the system.
+fn run_on_host(rt: &HostRuntime) -> Result<Ended, NotRun> {
+    let words = words_of_system(rt)?;
+    let mut texts = Vec::new(rt.alloc());
+    for word in words.as_slice() {
+        texts.push(word.as_str())?;
+    }
+    Ok(run_words(rt, texts.as_slice()))
 }
 
 // Notes on standard error how many events were not compared for want of an offset.
 fn note_utc(rt: &HostRuntime, in_utc: usize) {
     if let Ok(Some(text)) = note_on_utc(rt.alloc(), in_utc) {
-        let _ = eprintln!(rt; "{text}");
+        note(rt, text.as_str());
     }
 }
 

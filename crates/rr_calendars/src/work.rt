@@ -2,10 +2,11 @@
 ghost use Rattle.std.specs.Prelude.{◌≡◌, ◌++◌, ◌∷◌, [], IfOk, IfSome, IsErrOf, option_map};
 ghost use Rattle.rr_io.specs.Outside.{KeepsHeld};
 ghost use Rattle.rr_compare.specs.Outcomes.{outcome_is};
-ghost use Rattle.rr_compare.specs.Parsed.{asked_in, asked_of_words, comparison_in};
-ghost use Rattle.rr_calendars.specs.Run.{AreFilesOf, GainsFile, IsAnswerTo, IsEnding, content};
+ghost use Rattle.rr_compare.specs.Parsed.{asked_in, asked_of_words, comparison_in, word_in};
+ghost use Rattle.rr_calendars.specs.Fetched.{texts_of};
+ghost use Rattle.rr_calendars.specs.Run.{AreFilesOf, GainsFile, GainsName, IsAnswerTo, IsEnding, content, content_named};
 
-use rr_compare::{Asked, Outcome, Request, answer_to, parse};
+use rr_compare::{Asked, Outcome, Request, Texts, answer_to, parse};
 use rr_io::{FetchError, Source};
 use rr_seam::MAX_FILE;
 use rr_trip::Watch;
@@ -24,21 +25,41 @@ fn fetch<S: Source>(alloc: Global, name: &str, source: &mut S) -> Result<Vec<u8>
     source.fetch_within(alloc, name, MAX_FILE)
 }
 
-// The bytes of both files.
+// The bytes of a file, if its name is there; otherwise none.
+fn fetch_named<S: Source>(
+    alloc: Global,
+    name: Option<&str>,
+    source: &mut S,
+) -> Result<Vec<u8>, FetchError>
+    ensures bytes { IfOk result (λ v. IfSome (content_named (S.held source.old) (word_in name.entry))
+        (λ bytes. v.items ≡ bytes)) }
+    ensures failed { IsErrOf result FetchError.Failed → GainsName (word_in name.entry)
+        (S.failed source.old) (S.failed source.new) }
+    ensures kept { (IsErrOf result FetchError.Failed → ⊥)
+        → S.failed source.new ≡ S.failed source.old }
+{
+    match name {
+        Some(name) => fetch(alloc, name, source),
+        None => Ok(Vec::new(alloc)),
+    }
+}
+
+// The bytes of the files.
 #[derive(Drop)]
 struct Files {
     old: Vec<u8>,
     new: Vec<u8>,
+    zones: Vec<u8>,
 }
 
-// The bytes of both files, which are fetched in order.
-fn fetch_both<S: Source>(
+// The bytes of the files that a comparison names, which are fetched in order.
+fn fetch_all<S: Source>(
     alloc: Global,
     request: Request,
     source: &mut S,
 ) -> Result<Files, FetchError>
     ensures files { IfOk result (λ f. AreFilesOf (comparison_in request.entry) (S.held source.old)
-        f.old.items f.new.items) }
+        (texts_of f)) }
     ensures failed { IsErrOf result FetchError.Failed
         → GainsFile (comparison_in request.entry) S.failed source.old source.new }
     ensures kept { (IsErrOf result FetchError.Failed → ⊥)
@@ -46,7 +67,8 @@ fn fetch_both<S: Source>(
 {
     let old = fetch(alloc, request.old.name, source)?;
     let new = fetch(alloc, request.new.name, source)?;
-    Ok(Files { old, new })
+    let zones = fetch_named(alloc, request.zones, source)?;
+    Ok(Files { old, new, zones })
 }
 
 // The bytes of the files that are asked for, and none if no comparison is.
@@ -56,7 +78,7 @@ fn fetch_asked<S: Source>(
     source: &mut S,
 ) -> Result<Files, FetchError>
     ensures files { IfOk result (λ f. AreFilesOf (option_map asked_in asked.entry)
-        (S.held source.old) f.old.items f.new.items) }
+        (S.held source.old) (texts_of f)) }
     ensures failed { IsErrOf result FetchError.Failed
         → GainsFile (option_map asked_in asked.entry) S.failed source.old source.new }
     ensures kept { (IsErrOf result FetchError.Failed → ⊥)
@@ -66,8 +88,9 @@ fn fetch_asked<S: Source>(
         None | Some(Asked::Help) => Ok(Files {
             old: Vec::new(alloc),
             new: Vec::new(alloc),
+            zones: Vec::new(alloc),
         }),
-        Some(Asked::Comparison(request)) => fetch_both(alloc, request, source),
+        Some(Asked::Comparison(request)) => fetch_all(alloc, request, source),
     }
 }
 
@@ -88,11 +111,10 @@ pub fn outcome_of<S: Source, W: Watch>(
 {
     let asked = parse(words);
     let files = fetch_asked(alloc, asked, source)?;
-    Ok(answer_to(
-        alloc,
-        asked,
-        files.old.as_slice(),
-        files.new.as_slice(),
-        watch,
-    )?)
+    let texts = Texts {
+        old: files.old.as_slice(),
+        new: files.new.as_slice(),
+        zones: files.zones.as_slice(),
+    };
+    Ok(answer_to(alloc, asked, texts, watch)?)
 }

@@ -1,5 +1,5 @@
 -- What is answered over two files.
-use Rattle.std.proofs.Common.{◌≡◌, ℕ, Bool, List, Option, Some, None, Ok, Err, ap, sym, subst, ◌∙◌}
+use Rattle.std.proofs.Common.{◌≡◌, ℕ, ℤ, Bool, List, Option, Some, None, Ok, Err, ap, sym, subst, ◌∙◌}
 use Rattle.std.specs.Prelude.{Result}
 use Rattle.rr_model.specs.declared.verdict.Side.TheVariants.{A, B}
 use Rattle.rr_seam.specs.Files.{AnswersCalendar, IsCalendar}
@@ -8,7 +8,8 @@ use Rattle.rr_seam.specs.declared.file.FileFault.{FileFault}
 use Rattle.rr_seam.specs.declared.file.FileFault.TheVariants as file_fault
 use Rattle.rr_seam.specs.declared.file.FileRefusal.{FileRefusal}
 use Rattle.rr_compare.specs.Answer.{Answer, IsCompared, IsComparedWith, IsFaultAnswer, IsNamed, IsOfBoth, IsReported}
-use Rattle.rr_compare.specs.Calendars.{calendar_in}
+use Rattle.rr_trip.specs.Zoned.{ZonedCalendar, zoned}
+use Rattle.rr_compare.specs.Calendars.{calendar_in, with_meaning}
 use Rattle.rr_compare.specs.Words.{Request}
 use Rattle.rr_compare.specs.declared.file.AnyFile.{AnyFile}
 
@@ -22,26 +23,42 @@ same_calendar c d keys stated = λ i. record { keys = keys i; stated = λ (index
 pub is_read : (wanted : Result Calendar FileRefusal) (c : Calendar) → IsCalendar wanted c → wanted ≡ Ok c
 is_read wanted c is = is.reads ∙ ap Ok (sym (same_calendar c is.of_file is.keys is.stated))
 
-module _ (request : Request) (wanted : Result Calendar FileRefusal) (answer : Answer) where
-  pub read_a : (a : Calendar) (b : Result Calendar FileRefusal) → IsCalendar wanted a → IsComparedWith request a b answer → IsCompared request wanted b answer
-  read_a a b is h = subst (λ (w : Result Calendar FileRefusal). IsCompared request w b answer) (sym (is_read wanted a is)) h
+module _ (request : Request) (wanted : Result Calendar FileRefusal) (means : List ℕ → Option (ℤ → ℤ)) (answer : Answer) where
+  -- the file that is wanted, with what the names of its zones mean
+  abbrev pub file : Result ZonedCalendar FileRefusal
+  file = with_meaning wanted means
 
-  pub read_b : (a b : Calendar) → IsCalendar wanted b → IsOfBoth request.show request.only_differences a b answer → IsComparedWith request a wanted answer
-  read_b a b is h = subst (λ (w : Result Calendar FileRefusal). IsComparedWith request a w answer) (sym (is_read wanted b is)) h
+  -- it is this calendar
+  is_zoned : (c : Calendar) → IsCalendar wanted c → file ≡ Ok (zoned c means)
+  is_zoned c is = ap (λ (w : Result Calendar FileRefusal). with_meaning w means) (is_read wanted c is)
 
-  pub refused_a : (b : Result Calendar FileRefusal) (fault : FileFault) → AnswersCalendar {F = AnyFile} calendar_in wanted (Err fault)
-      → IsFaultAnswer A fault answer → IsCompared request wanted b answer
-  refused_a b (file_fault.Refused r) is h = subst (λ (w : Result Calendar FileRefusal). IsCompared request w b answer) (sym is) h
+  -- it is refused so
+  is_refused : (r : FileRefusal) → wanted ≡ Err r → file ≡ Err r
+  is_refused r e = ap (λ (w : Result Calendar FileRefusal). with_meaning w means) e
+
+  pub read_a : (a : Calendar) (b : Result ZonedCalendar FileRefusal) → IsCalendar wanted a → IsComparedWith request (zoned a means) b answer
+      → IsCompared request file b answer
+  read_a a b is h = subst (λ (w : Result ZonedCalendar FileRefusal). IsCompared request w b answer) (sym (is_zoned a is)) h
+
+  pub read_b : (a : ZonedCalendar) (b : Calendar) → IsCalendar wanted b → IsOfBoth request.show request.only_differences a (zoned b means) answer
+      → IsComparedWith request a file answer
+  read_b a b is h = subst (λ (w : Result ZonedCalendar FileRefusal). IsComparedWith request a w answer) (sym (is_zoned b is)) h
+
+  pub refused_a : (b : Result ZonedCalendar FileRefusal) (fault : FileFault) → AnswersCalendar {F = AnyFile} calendar_in wanted (Err fault)
+      → IsFaultAnswer A fault answer → IsCompared request file b answer
+  refused_a b (file_fault.Refused r) is h =
+      subst (λ (w : Result ZonedCalendar FileRefusal). IsCompared request w b answer) (sym (is_refused r is)) h
   refused_a b file_fault.NoMemory is h = absurd h
 
-  pub refused_b : (a : Calendar) (fault : FileFault) → AnswersCalendar {F = AnyFile} calendar_in wanted (Err fault) → IsFaultAnswer B fault answer
-      → IsComparedWith request a wanted answer
-  refused_b a (file_fault.Refused r) is h = subst (λ (w : Result Calendar FileRefusal). IsComparedWith request a w answer) (sym is) h
+  pub refused_b : (a : ZonedCalendar) (fault : FileFault) → AnswersCalendar {F = AnyFile} calendar_in wanted (Err fault)
+      → IsFaultAnswer B fault answer → IsComparedWith request a file answer
+  refused_b a (file_fault.Refused r) is h =
+      subst (λ (w : Result ZonedCalendar FileRefusal). IsComparedWith request a w answer) (sym (is_refused r is)) h
   refused_b a file_fault.NoMemory is h = absurd h
 
 -- ---- two calendars
 
-module _ (only_differences : Bool) (a b : Calendar) (answer : Answer) where
+module _ (only_differences : Bool) (a b : ZonedCalendar) (answer : Answer) where
   -- what is answered if no name is asked for, and if one is
   pub none_of_both : (show : Option (List ℕ)) → show ≡ None → IsReported only_differences a b answer → IsOfBoth show only_differences a b answer
   none_of_both show e h = subst (λ (s : Option (List ℕ)). IsOfBoth s only_differences a b answer) (sym e) h

@@ -1,5 +1,5 @@
 -- What the lines of a text say of its version, line by line.
-use Rattle.std.proofs.Common.{◌≡◌, ℕ, Bool, true, false, ◌||◌, List, [], ◌∷◌, Option, Some, None, refl, ap, sym, ◌∙◌}
+use Rattle.std.proofs.Common.{◌≡◌, ℕ, Bool, false, ◌||◌, List, [], Option, Some, None, ap, sym, ◌∙◌}
 use Rattle.rr_model.specs.Text.Lines.{physical_lines}
 use Rattle.rr_text.specs.Physical.{IsCutAt}
 use Rattle.rr_compare.specs.Languages.{head_says, is_begin, is_version_one, said_or, version_from}

@@ -1,4 +1,5 @@
 mod WordLemmas
+mod NameLemmas
 mod LanguageLemmas
 mod FileLemmas
 mod AnswerLemmas

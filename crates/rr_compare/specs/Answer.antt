@@ -1,8 +1,7 @@
--- What is answered to words over the bytes of both files.
+-- What is answered to words over the bytes of the files.
 use Rattle.std.specs.Prelude.{◌≡◌, ℕ, Bool, if◌then◌else◌, List, Option, None, Some, Result, Ok, Err}
 use Rattle.rr_model.specs.declared.verdict.Side.{Side}
 use Rattle.rr_model.specs.declared.verdict.Side.TheVariants.{A, B}
-use Rattle.rr_seam.specs.Stated.{Calendar}
 use Rattle.rr_seam.specs.declared.file.FileFault.{FileFault}
 use Rattle.rr_seam.specs.declared.file.FileFault.TheVariants as file_fault
 use Rattle.rr_seam.specs.declared.file.FileRefusal.{FileRefusal}
@@ -10,12 +9,13 @@ use Rattle.rr_trip.specs.Counts.{count_said, counts_of, is_in_utc, status_of}
 use Rattle.rr_trip.specs.Printed.{file_refusal_line, report_text}
 use Rattle.rr_trip.specs.Report.{IsReport}
 use Rattle.rr_trip.specs.Shown.{IsShownIn}
+use Rattle.rr_trip.specs.Zoned.{ZonedCalendar}
 use Rattle.rr_trip.specs.declared.report.ReportLine.{ReportLine}
 use Rattle.rr_trip.specs.declared.report.Status.{Status as Ending}
 use Rattle.rr_trip.specs.declared.report.Status.TheVariants as ending
 use Rattle.rr_trip.specs.declared.said.Said.{Said}
 use Rattle.rr_trip.specs.declared.shown.Shown.{Shown}
-use Rattle.rr_compare.specs.Calendars.{file_calendar}
+use Rattle.rr_compare.specs.Calendars.{Texts, new_calendar, old_calendar}
 use Rattle.rr_compare.specs.Words.{Asked, Request, comparison, help}
 use Rattle.rr_compare.specs.declared.status.Status.{Status}
 use Rattle.rr_compare.specs.declared.status.Status.TheVariants.{Equal, Differs, Refused, Usage, ReadFault, WriteFault, NoMemory}
@@ -64,19 +64,19 @@ abbrev pub shown_answer : Shown → Answer
 shown_answer shown = record { status = status_by shown.status; bytes = shown.text.items; in_utc = utc_count shown.said }
 
 -- the answer is the report of both calendars
-pub record IsReported (only_differences : Bool) (a b : Calendar) (answer : Answer) : Type 0 where
+pub record IsReported (only_differences : Bool) (a b : ZonedCalendar) (answer : Answer) : Type 0 where
   pub lines : List ReportLine
   pub report : IsReport a b lines
   pub is : answer ≡ report_answer only_differences lines
 
 -- the answer is what is shown of the events of a name in both calendars
-pub record IsNamed (name : List ℕ) (a b : Calendar) (answer : Answer) : Type 0 where
+pub record IsNamed (name : List ℕ) (a b : ZonedCalendar) (answer : Answer) : Type 0 where
   pub shown : Shown
   pub shows : IsShownIn a b name shown
   pub is : answer ≡ shown_answer shown
 
 -- what is answered over two calendars: the report, or what is shown of one name
-abbrev pub IsOfBoth : Option (List ℕ) → Bool → Calendar → Calendar → Answer → Type 0
+abbrev pub IsOfBoth : Option (List ℕ) → Bool → ZonedCalendar → ZonedCalendar → Answer → Type 0
 IsOfBoth None only_differences a b answer = IsReported only_differences a b answer
 IsOfBoth (Some name) only_differences a b answer = IsNamed name a b answer
 
@@ -86,18 +86,17 @@ IsFaultAnswer side (file_fault.Refused refusal) answer = answer ≡ refusal_answ
 IsFaultAnswer side file_fault.NoMemory answer = ⊥
 
 -- what is answered over the calendar A and the file B, which is a calendar or is refused
-abbrev pub IsComparedWith : Request → Calendar → Result Calendar FileRefusal → Answer → Type 0
+abbrev pub IsComparedWith : Request → ZonedCalendar → Result ZonedCalendar FileRefusal → Answer → Type 0
 IsComparedWith request a (Ok b) answer = IsOfBoth request.show request.only_differences a b answer
 IsComparedWith request a (Err refusal) answer = answer ≡ refusal_answer B refusal
 
 -- What is answered over two files, each of which is a calendar or is refused: if A is refused nothing is said of B.
-abbrev pub IsCompared : Request → Result Calendar FileRefusal → Result Calendar FileRefusal → Answer → Type 0
+abbrev pub IsCompared : Request → Result ZonedCalendar FileRefusal → Result ZonedCalendar FileRefusal → Answer → Type 0
 IsCompared request (Ok a) b answer = IsComparedWith request a b answer
 IsCompared request (Err refusal) b answer = answer ≡ refusal_answer A refusal
 
 -- what is asked is answered, over the bytes of the files; the texts of usage and help are no promise
-abbrev pub IsAnswer : Option Asked → List ℕ × List ℕ → Answer → Type 0
-IsAnswer None files answer = answer.status ≡ Usage
-IsAnswer (Some help) files answer = answer.status ≡ Equal
-IsAnswer (Some (comparison request)) files answer =
-    IsCompared request (file_calendar request.old request.offset files.0) (file_calendar request.new request.offset files.1) answer
+abbrev pub IsAnswer : Option Asked → Texts → Answer → Type 0
+IsAnswer None texts answer = answer.status ≡ Usage
+IsAnswer (Some help) texts answer = answer.status ≡ Equal
+IsAnswer (Some (comparison request)) texts answer = IsCompared request (old_calendar request texts) (new_calendar request texts) answer

@@ -1,15 +1,19 @@
--- The calendar that a file is.
-use Rattle.std.specs.Prelude.{ℕ, nat_lt, if◌then◌else◌, ℤ, List, length, Option, Some, None, Result}
-use Rattle.rr_graphfile.specs.Files.{calendar as graph_calendar, calendar_in as graph_calendar_in}
+-- The calendar that a file is, and what the names of its zones mean.
+use Rattle.std.specs.Prelude.{ℕ, nat_lt, if◌then◌else◌, ℤ, List, [], ◌∷◌, length, Option, Some, None, Result, Ok, Err}
+use Rattle.rr_events.specs.RawLines.{RawLine}
 use Rattle.rr_icalfile.specs.Calendar.{calendar as ical_calendar, calendar_in as ical_calendar_in}
 use Rattle.rr_vcalfile.specs.Files.{calendar as vcal_calendar, calendar_in as vcal_calendar_in}
 use Rattle.rr_seam.specs.Stated.{Calendar, Stated, calendar_by}
 use Rattle.rr_seam.specs.declared.file.FileRefusal.{FileRefusal}
 use Rattle.rr_seam.specs.declared.file.TheConstants.{MAX_FILE}
 use Rattle.rr_seam.specs.declared.key.Key.{Key}
+use Rattle.rr_offsets.specs.Meanings.{zones_of_text}
+use Rattle.rr_trip.specs.Zoned.{ZonedCalendar, zoned}
 use Rattle.rr_zone.specs.Local.{in_local_time}
 use Rattle.rr_compare.specs.Languages.{language_by}
-use Rattle.rr_compare.specs.Operands.{Operand}
+use Rattle.rr_compare.specs.Names.{meaning_by}
+use Rattle.rr_compare.specs.Turned.{calendar as graph_calendar, calendar_in as graph_calendar_in}
+use Rattle.rr_compare.specs.Words.{Request}
 use Rattle.rr_compare.specs.declared.file.AnyFile.{AnyFile}
 use Rattle.rr_compare.specs.declared.file.AnyFile.TheVariants as file
 use Rattle.rr_compare.specs.declared.operand.Language.{Language}
@@ -63,6 +67,68 @@ offset_by None both = both
 abbrev pub calendar_as : Language → Option ℤ → List ℕ → Result Calendar FileRefusal
 calendar_as language offset bytes = calendar_of language offset (text_in language bytes)
 
--- the calendar that the file of an operand is, beside the stated offset of both, or why it is refused
-abbrev pub file_calendar : Operand → Option ℤ → List ℕ → Result Calendar FileRefusal
-file_calendar operand both bytes = calendar_as (language_by operand.language bytes) (offset_by operand.offset both) bytes
+-- ---- the zones that files define
+
+-- the bytes of the two files that are compared, and of the one that defines further zones, empty if there is none
+pub record Texts : Type 0 where
+  pub old : List ℕ
+  pub new : List ℕ
+  pub zones : List ℕ
+
+-- two texts alone
+abbrev pub two_texts : List ℕ → List ℕ → Texts
+two_texts old new = record { old = old; new = new; zones = [] }
+
+-- the text of a file, unless it has more bytes than a file may have
+abbrev pub text_within : List ℕ → List ℕ
+text_within bytes = if nat_lt MAX_FILE (length bytes) then [] else bytes
+
+-- the text by which a file in a language defines zones; only iCalendar does
+abbrev pub zone_text : Language → List ℕ → List ℕ
+zone_text Ics bytes = text_within bytes
+zone_text Graph bytes = []
+zone_text Vcal bytes = []
+
+-- the zones that a file in a language defines
+abbrev pub zones_as : Language → List ℕ → List (List RawLine)
+zones_as language bytes = zones_of_text (zone_text language bytes)
+
+-- the zones that the file of further zones defines
+abbrev pub further_zones : List ℕ → List (List RawLine)
+further_zones bytes = zones_of_text (text_within bytes)
+
+-- ---- a calendar with the meaning of its zones
+
+-- a calendar with what the names of its zones mean, or why its file is refused
+abbrev pub with_meaning : Result Calendar FileRefusal → (List ℕ → Option (ℤ → ℤ)) → Result ZonedCalendar FileRefusal
+with_meaning (Ok calendar) means = Ok (zoned calendar means)
+with_meaning (Err refusal) means = Err refusal
+
+-- the calendar that a file in a language is, by the zones of these files and its stated offset
+abbrev pub zoned_as : Language → Option ℤ → List (List (List RawLine)) → List ℕ → Result ZonedCalendar FileRefusal
+zoned_as language offset files bytes = with_meaning (calendar_as language offset bytes) (meaning_by files offset)
+
+-- The calendars A and B, each file in its language: a name means what the own file defines, otherwise what the other one does, otherwise what
+-- the file of further zones does.
+abbrev pub old_as : Language → Language → Request → Texts → Result ZonedCalendar FileRefusal
+old_as a b request texts =
+    zoned_as a (offset_by request.old.offset request.offset) (zones_as a texts.old ∷ zones_as b texts.new ∷ further_zones texts.zones ∷ []) texts.old
+
+abbrev pub new_as : Language → Language → Request → Texts → Result ZonedCalendar FileRefusal
+new_as a b request texts =
+    zoned_as b (offset_by request.new.offset request.offset) (zones_as b texts.new ∷ zones_as a texts.old ∷ further_zones texts.zones ∷ []) texts.new
+
+-- the language of each file
+abbrev pub old_language : Request → Texts → Language
+old_language request texts = language_by request.old.language texts.old
+
+abbrev pub new_language : Request → Texts → Language
+new_language request texts = language_by request.new.language texts.new
+
+-- the calendar A
+abbrev pub old_calendar : Request → Texts → Result ZonedCalendar FileRefusal
+old_calendar request texts = old_as (old_language request texts) (new_language request texts) request texts
+
+-- the calendar B
+abbrev pub new_calendar : Request → Texts → Result ZonedCalendar FileRefusal
+new_calendar request texts = new_as (old_language request texts) (new_language request texts) request texts

@@ -2,6 +2,8 @@ pub mod Operands
 pub mod Words
 pub mod Parsed
 pub mod Languages
+pub mod Names
+pub mod Turned
 pub mod Calendars
 pub mod Answer
 pub mod Outcomes

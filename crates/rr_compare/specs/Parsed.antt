@@ -36,6 +36,7 @@ given_in given = record {
   new = file_in given.new;
   only_differences = given.only_differences;
   offset = given.offset;
+  zones = word_in given.zones;
   show = word_in given.show;
   next = given.next;
 }
@@ -47,6 +48,7 @@ request_in request = record {
   new = operand_in request.new;
   only_differences = request.only_differences;
   offset = request.offset;
+  zones = word_in request.zones;
   show = word_in request.show;
 }
 

@@ -5,15 +5,16 @@ use Rattle.std.specs.Option.{is_some}
 use Rattle.rr_text.specs.Offset.{offset_of}
 use Rattle.rr_compare.specs.Operands.{Operand, operand_of}
 use Rattle.rr_compare.specs.declared.words.Next.{Next}
-use Rattle.rr_compare.specs.declared.words.Next.TheVariants.{Word, Offset, Name}
+use Rattle.rr_compare.specs.declared.words.Next.TheVariants.{Word, Offset, Zones, Name}
 
--- what is asked of two files: which they are, whether equal events are left out, the stated offset of both from UTC in seconds, and the
--- name of the only event that is asked for
+-- what is asked of two files: which they are, whether equal events are left out, the stated offset of both from UTC in seconds, the name of a
+-- file that defines further zones, and that of the only event that is asked for
 pub record Request : Type 0 where
   pub old : Operand
   pub new : Operand
   pub only_differences : Bool
   pub offset : Option ℤ
+  pub zones : Option (List ℕ)
   pub show : Option (List ℕ)
 
 -- what the words of the command ask for
@@ -27,12 +28,13 @@ pub record Given : Type 0 where
   pub new : Option Operand
   pub only_differences : Bool
   pub offset : Option ℤ
+  pub zones : Option (List ℕ)
   pub show : Option (List ℕ)
   pub next : Next
 
 -- what is stated before the first word
 abbrev pub nothing_given : Given
-nothing_given = record { old = None; new = None; only_differences = false; offset = None; show = None; next = Word }
+nothing_given = record { old = None; new = None; only_differences = false; offset = None; zones = None; show = None; next = Word }
 
 -- an offset from UTC: hours after their sign, a colon, and minutes
 abbrev pub offset_in : List ℕ → Option ℤ
@@ -52,6 +54,11 @@ with_file given word = option_and_then (with_operand given) (operand_of word)
 abbrev pub with_offset : Given → List ℕ → Option Given
 with_offset given text = option_map (λ offset. record given { offset = Some offset; next = Word }) (offset_in text)
 
+-- the words so far with the value of `--zones`; None where it is empty
+abbrev pub with_zones : Given → List ℕ → Option Given
+with_zones given [] = None
+with_zones given (b ∷ bs) = Some (record given { zones = Some (b ∷ bs); next = Word })
+
 -- the words so far with the value of `--show`; None where it is empty
 abbrev pub with_name : Given → List ℕ → Option Given
 with_name given [] = None
@@ -62,13 +69,15 @@ abbrev pub with_option : Given → List ℕ → Option Given
 with_option given word =
     if bytes_eq word (codes "--differences") && not given.only_differences then Some (record given { only_differences = true })
     else (if bytes_eq word (codes "--offset") && not (is_some given.offset) then Some (record given { next = Offset })
+    else (if bytes_eq word (codes "--zones") && not (is_some given.zones) then Some (record given { next = Zones })
     else (if bytes_eq word (codes "--show") && not (is_some given.show) then Some (record given { next = Name })
-    else with_file given word))
+    else with_file given word)))
 
 -- the words so far with one word more, by what the word before asks for; None where it is refused
 abbrev pub with_next : Next → Given → List ℕ → Option Given
 with_next Word given word = with_option given word
 with_next Offset given word = with_offset given word
+with_next Zones given word = with_zones given word
 with_next Name given word = with_name given word
 
 -- the words so far with one word more; None where it is refused
@@ -88,17 +97,35 @@ given_of words = with_words nothing_given words
 abbrev pub is_word : Next → Bool
 is_word Word = true
 is_word Offset = false
+is_word Zones = false
 is_word Name = false
 
--- both files are `-`, standard input
-abbrev pub are_input : Operand → Operand → Bool
-are_input old new = bytes_eq old.name (codes "-") && bytes_eq new.name (codes "-")
+-- a name is that of standard input
+abbrev pub is_input : List ℕ → Bool
+is_input name = bytes_eq name (codes "-")
 
--- what a comparison of two files asks for; None if an option waits for its value, or both files are standard input
+-- this name is there, and is that of standard input
+abbrev pub is_input_named : Option (List ℕ) → Bool
+is_input_named None = false
+is_input_named (Some name) = is_input name
+
+-- two of the files are standard input: the two that are compared, or the one of further zones and one of these
+abbrev pub share_input : Operand → Operand → Option (List ℕ) → Bool
+share_input old new zones =
+    if is_input_named zones then is_input old.name || is_input new.name else (is_input old.name && is_input new.name)
+
+-- what a comparison of two files asks for; None if an option waits for its value, or two of the files are standard input
 abbrev pub request_by : Given → Operand → Operand → Option Request
 request_by given old new =
-    if not (is_word given.next) || are_input old new then None
-    else Some (record { old = old; new = new; only_differences = given.only_differences; offset = given.offset; show = given.show })
+    if not (is_word given.next) || share_input old new given.zones then None
+    else Some (record {
+      old = old;
+      new = new;
+      only_differences = given.only_differences;
+      offset = given.offset;
+      zones = given.zones;
+      show = given.show;
+    })
 
 -- the comparison that the words ask
 abbrev pub request_of : Given → Option Request
@@ -113,3 +140,9 @@ is_help (word ∷ next ∷ words) = false
 -- what the words ask, where they ask something
 unfoldable pub asked_of : List (List ℕ) → Option Asked
 asked_of words = if is_help words then Some help else option_and_then (λ given. option_map comparison (request_of given)) (given_of words)
+
+-- what words ask of two texts alone: nothing if they name a file of further zones
+abbrev pub of_two_texts : Option Asked → Option Asked
+of_two_texts None = None
+of_two_texts (Some help) = Some help
+of_two_texts (Some (comparison request)) = if is_some request.zones then None else Some (comparison request)

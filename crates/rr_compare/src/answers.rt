@@ -1,23 +1,23 @@
-// What is answered to words, over the bytes of both files.
+// What is answered to words, over the bytes of the files.
 ghost use Rattle.std.specs.Prelude.{◌≡◌, All, IfOk, option_map};
-ghost use Rattle.std.specs.Cow.{cow_slice_items};
 ghost use Rattle.rr_compare.specs.Answer.{IsAnswer, IsCompared, IsComparedWith, IsFaultAnswer, IsNamed, IsOfBoth, IsReported, report_answer, status_by, utc_count};
-ghost use Rattle.rr_compare.specs.Calendars.{calendar_as, calendar_in, file_calendar, local_file, offset_by, text_in};
-ghost use Rattle.rr_compare.specs.Outcomes.{outcome_is, text_calendar};
-ghost use Rattle.rr_compare.specs.Parsed.{asked_in, asked_of_words, operand_in, request_in};
+ghost use Rattle.rr_compare.specs.Calendars.{new_as, new_calendar, offset_by, old_as, old_calendar, two_texts};
+ghost use Rattle.rr_compare.specs.Outcomes.{outcome_is, text_calendar, texts_in, zoned_in};
+ghost use Rattle.rr_compare.specs.Parsed.{asked_in, asked_of_words, request_in};
+ghost use Rattle.rr_compare.specs.Words.{of_two_texts};
 ghost use Rattle.rr_trip.specs.Said.{IsPrintableSaid};
 
 use crate::file::AnyFile;
 use crate::language::language_by;
+use crate::names::Names;
 use crate::operand::Language;
 use crate::status::Status;
-use crate::words::{Asked, HELP, Request, USAGE, parse};
+use crate::texts::{Texts, text_in, zones_of};
+use crate::words::{Asked, HELP, Request, USAGE, parse_of_two};
 use rr_model::{NoMemory, Side};
-use rr_seam::{FileFault, MAX_FILE};
+use rr_seam::FileFault;
 use rr_trip::{Report, Said, Unwatched, Watch, compare, is_in_utc, print, print_refusal, show};
-use rr_zone::local_text;
 use std::alloc::Global;
-use std::borrow::CowSlice;
 
 /// What is to be put, and how the run then ends.
 #[derive(Drop)]
@@ -64,13 +64,15 @@ fn comparison_outcome<W: Watch>(
     alloc: Global,
     only_differences: bool,
     a: &AnyFile,
+    names_a: &Names,
     b: &AnyFile,
+    names_b: &Names,
     watch: &mut W,
 ) -> Result<Outcome, NoMemory>
-    ensures { IfOk result (λ x. IsReported only_differences (calendar_in a.now) (calendar_in b.now)
-        (outcome_is x)) }
+    ensures { IfOk result (λ x. IsReported only_differences (zoned_in a.now names_a.now)
+        (zoned_in b.now names_b.now) (outcome_is x)) }
 {
-    let report = compare(alloc, a, b, watch)?;
+    let report = compare(alloc, a, names_a, b, names_b, watch)?;
     report_outcome(alloc, only_differences, &report)
 }
 
@@ -85,11 +87,18 @@ fn in_utc_count(said: Option<Said>) -> usize
 }
 
 // What is said of one name in two calendars.
-fn name_outcome(alloc: Global, name: &str, a: &AnyFile, b: &AnyFile) -> Result<Outcome, NoMemory>
-    ensures { IfOk result (λ x. IsNamed name.now (calendar_in a.now) (calendar_in b.now)
-        (outcome_is x)) }
+fn name_outcome(
+    alloc: Global,
+    name: &str,
+    a: &AnyFile,
+    names_a: &Names,
+    b: &AnyFile,
+    names_b: &Names,
+) -> Result<Outcome, NoMemory>
+    ensures { IfOk result (λ x. IsNamed name.now (zoned_in a.now names_a.now)
+        (zoned_in b.now names_b.now) (outcome_is x)) }
 {
-    let shown = show(alloc, a, b, name.as_bytes())?;
+    let shown = show(alloc, a, names_a, b, names_b, name.as_bytes())?;
     Ok(Outcome {
         status: status_by(shown.status),
         in_utc: in_utc_count(shown.said),
@@ -102,15 +111,21 @@ fn outcome_of_both<W: Watch>(
     alloc: Global,
     request: Request,
     a: &AnyFile,
+    names_a: &Names,
     b: &AnyFile,
+    names_b: &Names,
     watch: &mut W,
 ) -> Result<Outcome, NoMemory>
     ensures { IfOk result (λ x. IsOfBoth (request_in request.entry).show
-        request.entry.only_differences (calendar_in a.now) (calendar_in b.now) (outcome_is x)) }
+        request.entry.only_differences (zoned_in a.now names_a.now) (zoned_in b.now names_b.now)
+        (outcome_is x)) }
 {
     match request.show {
-        None => comparison_outcome(alloc, request.only_differences, a, b, watch),
-        Some(name) => name_outcome(alloc, name, a, b),
+        None => {
+            let only_differences = request.only_differences;
+            comparison_outcome(alloc, only_differences, a, names_a, b, names_b, watch)
+        }
+        Some(name) => name_outcome(alloc, name, a, names_a, b, names_b),
     }
 }
 
@@ -128,12 +143,12 @@ fn refusal_outcome(alloc: Global, side: Side, fault: FileFault) -> Result<Outcom
     }
 }
 
-// A text that is read as a calendar.
+// A text that is read as a calendar, with what the names of its zones mean.
 #[derive(Clone, Copy)]
-struct CalendarText<'a> {
+struct CalendarText<'t, 'n, 'a> {
     language: Language,
-    offset: Option<i32>,
-    bytes: &'a [u8],
+    bytes: &'t [u8],
+    names: Names<'n, 'a>,
 }
 
 // What is said of a text beside the calendar A.
@@ -141,14 +156,15 @@ fn outcome_beside<W: Watch>(
     alloc: Global,
     request: Request,
     a: &AnyFile,
+    names_a: &Names,
     new: CalendarText,
     watch: &mut W,
 ) -> Result<Outcome, NoMemory>
-    ensures { IfOk result (λ x. IsComparedWith (request_in request.entry) (calendar_in a.now)
-        (text_calendar new.entry) (outcome_is x)) }
+    ensures { IfOk result (λ x. IsComparedWith (request_in request.entry)
+        (zoned_in a.now names_a.now) (text_calendar new.entry) (outcome_is x)) }
 {
-    match AnyFile::read(alloc, new.language, new.offset, new.bytes) {
-        Ok(b) => outcome_of_both(alloc, request, a, &b, watch),
+    match AnyFile::read(alloc, new.language, new.names.offset, new.bytes) {
+        Ok(b) => outcome_of_both(alloc, request, a, names_a, &b, &new.names, watch),
         Err(fault) => refusal_outcome(alloc, Side::B, fault),
     }
 }
@@ -164,33 +180,9 @@ fn compared_outcome<W: Watch>(
     ensures { IfOk result (λ x. IsCompared (request_in request.entry) (text_calendar old.entry)
         (text_calendar new.entry) (outcome_is x)) }
 {
-    match AnyFile::read(alloc, old.language, old.offset, old.bytes) {
-        Ok(a) => outcome_beside(alloc, request, &a, new, watch),
+    match AnyFile::read(alloc, old.language, old.names.offset, old.bytes) {
+        Ok(a) => outcome_beside(alloc, request, &a, &old.names, new, watch),
         Err(fault) => refusal_outcome(alloc, Side::A, fault),
-    }
-}
-
-// A file with its moments of UTC in local time of the zones that it defines. One that has more bytes than a file may have stays as it is, so that
-// it is refused for that: it may be the first part of a longer one, and the new text may be shorter.
-fn local_file(alloc: Global, bytes: &[u8]) -> Result<CowSlice<'_, u8>, NoMemory>
-    ensures { IfOk result (λ text. cow_slice_items text ≡ local_file bytes.now) }
-{
-    if bytes.len() > MAX_FILE {
-        return Ok(CowSlice::Borrowed(bytes));
-    }
-    match local_text(alloc, bytes)? {
-        Some(text) => Ok(CowSlice::Owned(text)),
-        None => Ok(CowSlice::Borrowed(bytes)),
-    }
-}
-
-// A file as it is read. Only iCalendar defines zones.
-fn text_in(alloc: Global, language: Language, bytes: &[u8]) -> Result<CowSlice<'_, u8>, NoMemory>
-    ensures { IfOk result (λ text. cow_slice_items text ≡ text_in language bytes.now) }
-{
-    match language {
-        Language::Ics => local_file(alloc, bytes),
-        Language::Graph | Language::Vcal => Ok(CowSlice::Borrowed(bytes)),
     }
 }
 
@@ -210,26 +202,36 @@ fn outcome_in<W: Watch>(
     request: Request,
     a: Language,
     b: Language,
-    old: &[u8],
-    new: &[u8],
+    texts: Texts,
     watch: &mut W,
 ) -> Result<Outcome, NoMemory>
     ensures { IfOk result (λ x. IsCompared (request_in request.entry)
-        (calendar_as a (offset_by request.entry.old.offset request.entry.offset) old.now)
-        (calendar_as b (offset_by request.entry.new.offset request.entry.offset) new.now)
+        (old_as a b (request_in request.entry) (texts_in texts.entry))
+        (new_as a b (request_in request.entry) (texts_in texts.entry))
         (outcome_is x)) }
 {
-    let old = text_in(alloc, a, old)?;
-    let new = text_in(alloc, b, new)?;
+    let old = text_in(alloc, a, texts.old)?;
+    let new = text_in(alloc, b, texts.new)?;
+    let zones = zones_of(alloc, a, b, texts)?;
     let a = CalendarText {
         language: a,
-        offset: offset_by(request.old.offset, request.offset),
         bytes: &old,
+        names: Names {
+            own: &zones.old,
+            other: &zones.new,
+            more: &zones.more,
+            offset: offset_by(request.old.offset, request.offset),
+        },
     };
     let b = CalendarText {
         language: b,
-        offset: offset_by(request.new.offset, request.offset),
         bytes: &new,
+        names: Names {
+            own: &zones.new,
+            other: &zones.old,
+            more: &zones.more,
+            offset: offset_by(request.new.offset, request.offset),
+        },
     };
     compared_outcome(alloc, request, a, b, watch)
 }
@@ -238,18 +240,17 @@ fn outcome_in<W: Watch>(
 fn files_outcome<W: Watch>(
     alloc: Global,
     request: Request,
-    old: &[u8],
-    new: &[u8],
+    texts: Texts,
     watch: &mut W,
 ) -> Result<Outcome, NoMemory>
     ensures { IfOk result (λ x. IsCompared (request_in request.entry)
-        (file_calendar (operand_in request.entry.old) request.entry.offset old.now)
-        (file_calendar (operand_in request.entry.new) request.entry.offset new.now)
+        (old_calendar (request_in request.entry) (texts_in texts.entry))
+        (new_calendar (request_in request.entry) (texts_in texts.entry))
         (outcome_is x)) }
 {
-    let a = language_by(request.old.language, old);
-    let b = language_by(request.new.language, new);
-    outcome_in(alloc, request, a, b, old, new, watch)
+    let a = language_by(request.old.language, texts.old);
+    let b = language_by(request.new.language, texts.new);
+    outcome_in(alloc, request, a, b, texts, watch)
 }
 
 // A text of the program's own.
@@ -264,29 +265,33 @@ fn text_outcome(alloc: Global, text: &[u8], status: Status) -> Result<Outcome, N
     })
 }
 
-/// What is answered to what the words ask, over the bytes of both files, which are of no account if they ask for no comparison.
+/// What is answered to what the words ask, over the bytes of the files, which are of no account if they ask for no comparison.
 /// Moments of UTC in iCalendar are read in local time of the zones that the file defines. The watch is told how far a comparison is, and that it has ended.
 pub fn answer_to<W: Watch>(
     alloc: Global,
     asked: Option<Asked>,
-    old: &[u8],
-    new: &[u8],
+    texts: Texts,
     watch: &mut W,
 ) -> Result<Outcome, NoMemory>
-    ensures { IfOk result (λ x. IsAnswer (option_map asked_in asked.entry) (old.now, new.now)
+    ensures { IfOk result (λ x. IsAnswer (option_map asked_in asked.entry) (texts_in texts.entry)
         (outcome_is x)) }
 {
     match asked {
         None => text_outcome(alloc, USAGE, Status::Usage),
         Some(Asked::Help) => text_outcome(alloc, HELP, Status::Equal),
-        Some(Asked::Comparison(request)) => files_outcome(alloc, request, old, new, watch),
+        Some(Asked::Comparison(request)) => files_outcome(alloc, request, texts, watch),
     }
 }
 
-/// What words answer over the bytes of both files: the usage line if they ask nothing. The names of the files are of no account.
+/// What words answer over two texts: the usage line if they ask nothing of these alone. The names of the files are of no account.
 pub fn answer(alloc: Global, words: &[&str], old: &[u8], new: &[u8]) -> Result<Outcome, NoMemory>
-    ensures { IfOk result (λ x. IsAnswer (asked_of_words words.now) (old.now, new.now)
-        (outcome_is x)) }
+    ensures { IfOk result (λ x. IsAnswer (of_two_texts (asked_of_words words.now))
+        (two_texts old.now new.now) (outcome_is x)) }
 {
-    answer_to(alloc, parse(words), old, new, &mut Unwatched)
+    let texts = Texts {
+        old,
+        new,
+        zones: b"",
+    };
+    answer_to(alloc, parse_of_two(words), texts, &mut Unwatched)
 }

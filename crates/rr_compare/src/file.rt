@@ -3,8 +3,8 @@ ghost use Rattle.std.specs.Prelude.{◌≡◌};
 ghost use Rattle.rr_compare.specs.Calendars.{calendar_in, calendar_of};
 ghost use Rattle.rr_seam.specs.Files.{AnswersCalendar};
 
+use crate::graph::GraphCalendar;
 use crate::operand::Language;
-use rr_graphfile::GraphFile;
 use rr_icalfile::IcalFile;
 use rr_model::NoMemory;
 use rr_seam::{EventFile, FileFault, Key, KeyFault, KeySeries};
@@ -17,7 +17,7 @@ pub enum AnyFile<'a> {
     /// iCalendar (RFC 5545).
     Ics(IcalFile<'a>),
     /// A list of events of Microsoft Graph.
-    Graph(GraphFile),
+    Graph(GraphCalendar),
     /// vCalendar 1.0.
     Vcal(VcalFile<'a>),
 }
@@ -60,7 +60,7 @@ fn read_graph<'a>(
 ) -> Result<AnyFile<'a>, FileFault>
     ensures { AnswersCalendar calendar_in (calendar_of Language.Graph offset text.now) result }
 {
-    match GraphFile::read(alloc, offset, text) {
+    match GraphCalendar::read(alloc, offset, text) {
         Ok(file) => Ok(AnyFile::Graph(file)),
         Err(fault) => Err(fault),
     }
@@ -89,7 +89,7 @@ impl<'a> EventFile for AnyFile<'a> {
     fn count(&self) -> usize {
         match self {
             AnyFile::Ics(file) => file.count(),
-            AnyFile::Graph(file) => file.count(),
+            AnyFile::Graph(calendar) => calendar.file.count(),
             AnyFile::Vcal(file) => file.count(),
         }
     }
@@ -97,7 +97,7 @@ impl<'a> EventFile for AnyFile<'a> {
     fn key_at(&self, alloc: Global, index: usize) -> Result<Key, NoMemory> {
         match self {
             AnyFile::Ics(file) => file.key_at(alloc, index),
-            AnyFile::Graph(file) => file.key_at(alloc, index),
+            AnyFile::Graph(calendar) => calendar.file.key_at(alloc, index),
             AnyFile::Vcal(file) => file.key_at(alloc, index),
         }
     }
@@ -105,7 +105,7 @@ impl<'a> EventFile for AnyFile<'a> {
     fn key_series(&self, alloc: Global, indexes: &[usize]) -> Result<KeySeries, KeyFault> {
         match self {
             AnyFile::Ics(file) => file.key_series(alloc, indexes),
-            AnyFile::Graph(file) => file.key_series(alloc, indexes),
+            AnyFile::Graph(calendar) => calendar.key_series(alloc, indexes),
             AnyFile::Vcal(file) => file.key_series(alloc, indexes),
         }
     }

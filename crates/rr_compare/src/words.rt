@@ -1,34 +1,37 @@
 // The words of the command line.
 ghost use Rattle.std.specs.Prelude.{◌≡◌, option_map};
-ghost use Rattle.rr_compare.specs.Words.{are_input, given_of, is_help, is_word, offset_in, request_of, with_file, with_name, with_offset, with_operand, with_option, with_word};
-ghost use Rattle.rr_compare.specs.Parsed.{asked_in, asked_of_words, given_in, operand_in, request_in, words_of};
+ghost use Rattle.rr_compare.specs.Words.{given_of, is_help, is_input, is_word, of_two_texts, offset_in, request_of, share_input, with_file, with_name, with_offset, with_operand, with_option, with_word, with_zones};
+ghost use Rattle.rr_compare.specs.Parsed.{asked_in, asked_of_words, given_in, operand_in, request_in, word_in, words_of};
 
 use crate::operand::{Operand, operand_of};
 use rr_text::offset_of;
 
 /// What is said of words that ask nothing.
 pub const USAGE: &[u8] =
-    b"usage: rr-calendars OLD NEW [--differences] [--offset +HH:MM] [--show UID]\n";
+    b"usage: rr-calendars OLD NEW [--differences] [--offset +HH:MM] [--zones FILE] [--show UID]\n";
 
 /// The page of help.
 pub const HELP: &[u8] =
     b"rr-calendars says of two calendar files whether each event survived the trip between them, for all years to come.
 
-  rr-calendars OLD NEW [--differences] [--offset +HH:MM] [--show UID]
+  rr-calendars OLD NEW [--differences] [--offset +HH:MM] [--zones FILE] [--show UID]
 
 OLD and NEW are calendar files of at most 64 MiB; one of the two may be - for standard input. Before a name its language may stand:
 ics: for iCalendar (RFC 5545), graph: for a list of events of Microsoft Graph in JSON, vcal: for vCalendar 1.0. A bare name is told by
 its content. graph@+01:00:NAME states local time less UTC for this file alone. A file whose own name begins so is ./graph:NAME.
 Events are found again by their UID, those of Graph by their iCalUId. There is a line for each, in the order of their UIDs:
 
-  equal UID                           the same occurrences
+  equal UID                           the same occurrences, at the same moments
   differs UID no MOMENT A             the first occurrence that only OLD (A) or only NEW (B) has
+  differs UID floating A              this side has neither a zone nor UTC, and the other side has
   only A UID                          only this file has the event
   refused UID A REASON LINE           the event cannot be read, with the line in the file, of Graph the number of the event
 
-Behind it stands zone where the names of zones differ, or UTC stands beside local time: local times are compared, and zones are not.
+Times are compared as moments if the zones of both sides are defined: by a VTIMEZONE of the same file, of the other one, or of FILE,
+where Windows' names stand for those of tzdata. Behind a moment stands then how far local time is ahead of UTC, or Z. Otherwise local
+times are compared. Behind a line stands zone if local times are equal, and the zones are not, or are not known to be.
 --differences leaves out the lines of equal events without zone. Moments of UTC beside local time are read by the zones that the file
-defines; --offset states local time less UTC, for those that no zone turns.
+defines; --offset states local time less UTC, for those that no zone turns, and for events without a zone.
 The last line counts them all. On a terminal a comparison of more than a second says how far it is.
 
 --show UID prints the line of this event alone, the UID as it is printed here, and below it, where it differs, how many differences
@@ -37,9 +40,9 @@ the two after it, Monday first: = for a day with the same times in both, x for o
 alone has, . for one that none has; then the days with others than the usual times. Of a UID that neither file has it prints
 unknown UID, with status 2.
 
-The status is 0 where all are equal, 1 where one differs or stands in one file alone, 2 where none does but one is refused,
-3 for other words, 4 where a file could not be read, 5 where the output could not be written, 6 out of memory, 7 where a word is
-no text in UTF-8.
+The status is 0 where all are equal, 1 where one differs or stands in one file alone, 2 where none does but one is refused, or is
+equal with zone behind it, 3 for other words, 4 where a file could not be read, 5 where the output could not be written, 6 out of
+memory, 7 where a word is no text in UTF-8.
 ";
 
 /// What is asked of two files.
@@ -53,6 +56,8 @@ pub struct Request<'a> {
     pub only_differences: bool,
     /// The stated offset of a file that has none of its own, local time less UTC, in seconds.
     pub offset: Option<i32>,
+    /// The name of a file that defines further zones, which is not empty.
+    pub zones: Option<&'a str>,
     /// The name of the only event that is asked for, as a report prints it, which is not empty.
     pub show: Option<&'a str>,
 }
@@ -73,6 +78,8 @@ pub enum Next {
     Word,
     /// The value of `--offset`.
     Offset,
+    /// The value of `--zones`.
+    Zones,
     /// The value of `--show`.
     Name,
 }
@@ -84,6 +91,7 @@ struct Given<'a> {
     new: Option<Operand<'a>>,
     only_differences: bool,
     offset: Option<i32>,
+    zones: Option<&'a str>,
     show: Option<&'a str>,
     next: Next,
 }
@@ -139,6 +147,20 @@ fn with_offset<'a>(given: Given<'a>, text: &str) -> Option<Given<'a>>
     })
 }
 
+// With the value of `--zones`.
+fn with_zones<'a>(given: Given<'a>, name: &'a str) -> Option<Given<'a>>
+    ensures { option_map given_in result ≡ with_zones (given_in given.entry) name.now }
+{
+    if name.is_empty() {
+        return None;
+    }
+    Some(Given {
+        zones: Some(name),
+        next: Next::Word,
+        ..given
+    })
+}
+
 // With the value of `--show`.
 fn with_name<'a>(given: Given<'a>, name: &'a str) -> Option<Given<'a>>
     ensures { option_map given_in result ≡ with_name (given_in given.entry) name.now }
@@ -166,6 +188,10 @@ fn with_option<'a>(given: Given<'a>, word: &'a str) -> Option<Given<'a>>
             next: Next::Offset,
             ..given
         }),
+        "--zones" if given.zones.is_none() => Some(Given {
+            next: Next::Zones,
+            ..given
+        }),
         "--show" if given.show.is_none() => Some(Given {
             next: Next::Name,
             ..given
@@ -181,6 +207,7 @@ fn with_word<'a>(given: Given<'a>, word: &'a str) -> Option<Given<'a>>
     match given.next {
         Next::Word => with_option(given, word),
         Next::Offset => with_offset(given, word),
+        Next::Zones => with_zones(given, word),
         Next::Name => with_name(given, word),
     }
 }
@@ -194,6 +221,7 @@ fn given_of<'a>(words: &[&'a str]) -> Option<Given<'a>>
         new: None,
         only_differences: false,
         offset: None,
+        zones: None,
         show: None,
         next: Next::Word,
     };
@@ -210,11 +238,23 @@ fn is_word(next: Next) -> bool
     matches!(next, Next::Word)
 }
 
-// Whether both are standard input.
-fn are_input(old: Operand, new: Operand) -> bool
-    ensures { result ≡ are_input (operand_in old.entry) (operand_in new.entry) }
+// Whether a name is that of standard input.
+fn is_input(name: &str) -> bool
+    ensures { result ≡ is_input name.now }
 {
-    old.name == "-" && new.name == "-"
+    name == "-"
+}
+
+// Whether two of the files are standard input.
+fn share_input(old: Operand, new: Operand, zones: Option<&str>) -> bool
+    ensures { result ≡ share_input (operand_in old.entry) (operand_in new.entry) (word_in zones.entry) }
+{
+    let is_old = is_input(old.name);
+    let is_new = is_input(new.name);
+    match zones {
+        Some(name) if is_input(name) => is_old || is_new,
+        _ => is_old && is_new,
+    }
 }
 
 // The comparison that the words ask. Standard input, `-`, can be one of the files alone.
@@ -223,7 +263,7 @@ fn request_of<'a>(given: Given<'a>) -> Option<Request<'a>>
 {
     let old = given.old?;
     let new = given.new?;
-    if !is_word(given.next) || are_input(old, new) {
+    if !is_word(given.next) || share_input(old, new, given.zones) {
         return None;
     }
     Some(Request {
@@ -231,6 +271,7 @@ fn request_of<'a>(given: Given<'a>) -> Option<Request<'a>>
         new,
         only_differences: given.only_differences,
         offset: given.offset,
+        zones: given.zones,
         show: given.show,
     })
 }
@@ -245,8 +286,8 @@ fn is_help(words: &[&str]) -> bool
     words[0] == "--help"
 }
 
-/// What the words ask, where they ask something: `--help` alone, or two files, with `--differences`, `--offset` and `--show`
-/// at any place.
+/// What the words ask, where they ask something: `--help` alone, or two files, with `--differences`, `--offset`, `--zones` and
+/// `--show` at any place.
 #[tactic(auto, unfolding(crate::specs::Words::asked_of))]
 pub fn parse<'a>(words: &[&'a str]) -> Option<Asked<'a>>
     ensures { option_map asked_in result ≡ asked_of_words words.now }
@@ -256,4 +297,21 @@ pub fn parse<'a>(words: &[&'a str]) -> Option<Asked<'a>>
     }
     let given = given_of(words)?;
     Some(Asked::Comparison(request_of(given)?))
+}
+
+// What words ask of two texts alone: nothing if they name a file of further zones.
+fn of_two_texts(asked: Option<Asked>) -> Option<Asked>
+    ensures { option_map asked_in result ≡ of_two_texts (option_map asked_in asked.entry) }
+{
+    match asked {
+        Some(Asked::Comparison(request)) if request.zones.is_some() => None,
+        asked => asked,
+    }
+}
+
+/// What the words ask where there are two texts and no files: the same, but nothing with `--zones`.
+pub fn parse_of_two<'a>(words: &[&'a str]) -> Option<Asked<'a>>
+    ensures { option_map asked_in result ≡ of_two_texts (asked_of_words words.now) }
+{
+    of_two_texts(parse(words))
 }

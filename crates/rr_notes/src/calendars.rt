@@ -7,7 +7,7 @@ use std::alloc::{AllocError, Global};
 
 // Whether a word is an option with a word of its own behind it.
 fn takes_word(option: &str) -> bool {
-    option == "--offset" || option == "--show"
+    matches!(option, "--offset" | "--zones" | "--show")
 }
 
 // Whether a text is an offset from UTC, as +01:00.
@@ -24,6 +24,9 @@ fn is_offset(text: &str) -> bool {
 fn note_on_value(alloc: Global, option: &str, word: &str) -> Result<Option<String>, AllocError> {
     if option == "--show" && word.is_empty() {
         return Ok(Some(format!(in alloc; "--show wants a UID")?));
+    }
+    if option == "--zones" && word.is_empty() {
+        return Ok(Some(format!(in alloc; "--zones wants a file")?));
     }
     if option == "--offset" && !is_offset(word) {
         let word = shown(alloc, word)?;
@@ -75,12 +78,13 @@ fn note_on_option(alloc: Global, word: &str) -> Result<Option<String>, AllocErro
     match word {
         "--differences" => Ok(None),
         "--offset" => Ok(None),
+        "--zones" => Ok(None),
         "--show" => Ok(None),
         "--help" => Ok(Some(format!(in alloc; "--help stands alone")?)),
         _ => {
             let word = shown(alloc, word)?;
             Ok(Some(format!(in alloc;
-                "{word} is no option: these are --differences, --offset, --show and --help"
+                "{word} is no option: these are --differences, --offset, --zones, --show and --help"
             )?))
         }
     }
@@ -128,6 +132,19 @@ fn is_input(word: &str) -> bool {
     file_name(word) == Some("-")
 }
 
+// Whether the file of further zones is standard input.
+fn are_zones_input(words: &[&str]) -> bool {
+    let mut option = "";
+    for word in words {
+        let word: &str = word;
+        if option == "--zones" && word == "-" {
+            return true;
+        }
+        option = if takes_word(option) { "" } else { word };
+    }
+    false
+}
+
 // What is wrong with words that ask nothing.
 fn text_on_words(alloc: Global, words: &[&str]) -> Result<String, AllocError> {
     if let Some(text) = note_on_first(alloc, words)? {
@@ -136,7 +153,9 @@ fn text_on_words(alloc: Global, words: &[&str]) -> Result<String, AllocError> {
     let files = files_of(alloc, words)?;
     match files.as_slice() {
         [old, new] => {
-            if is_input(old) && is_input(new) {
+            let is_old = is_input(old);
+            let is_new = is_input(new);
+            if (is_old && is_new) || (are_zones_input(words) && (is_old || is_new)) {
                 format!(in alloc; "standard input can be read once: one file alone may be -")
             } else {
                 format!(in alloc; "an option stands twice")
@@ -144,7 +163,7 @@ fn text_on_words(alloc: Global, words: &[&str]) -> Result<String, AllocError> {
         }
         files => {
             let count = files.len();
-            format!(in alloc; "two files are wanted, OLD and NEW, and {count} are named")
+            format!(in alloc; "two files are wanted, OLD and NEW, not {count}")
         }
     }
 }
@@ -161,7 +180,9 @@ pub fn note_on_calendar_words(alloc: Global, words: &[&str]) -> Result<String, A
 pub fn note_on_calendar_refusal(answer: &[u8]) -> Option<&'static str> {
     match answer {
         b"refused A NoEvents\n" | b"refused B NoEvents\n" => {
-            Some("the file is no whole calendar: 'rr' reads one event alone")
+            Some(
+                "the file is no whole calendar: 'rr' reads one event alone, and here a Graph event between [ and ] is a list",
+            )
         }
         b"refused A MorePages\n" | b"refused B MorePages\n" => {
             Some(

@@ -21,6 +21,7 @@ common A B
 minus A B
 translate LANG A:series
 split N=1-64 graph A
+split N=1-64 vcal A
 infer A:series
 drill SEED=0-4294967295 N=1-100
 help [COMMAND]

@@ -8,7 +8,7 @@ const LIST: &str =
     "the file is a list of Graph events: 'rr-calendars OLD graph:FILE' compares each of them";
 
 const INSTANCES: &str =
-    "the Graph event has cancelled or changed instances, which rr does not read: 'rr-calendars OLD graph:FILE' reads them in a list of events";
+    "the Graph event has cancelled or changed instances, which rr does not read: put the text between [ and ], and 'rr-calendars OLD graph:FILE' reads it";
 
 // Whether the member of that name is an array, and not an empty one.
 fn has_elements(value: &Value, name: &str) -> bool {

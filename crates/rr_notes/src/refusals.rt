@@ -25,7 +25,7 @@ pub fn note_on_refusal(answer: &[u8]) -> Option<&'static str> {
                 "the rule does not choose the start: move the start to the first day that the rule chooses",
             )
         }
-        "NoStart" => Some("the text has no start: a rule alone says no dates"),
+        "NoStart" => Some("the text has no start; a rule alone says no dates"),
         "Extended" => Some(
             "a rule with RSCALE is read as rscale:FILE, and one without as rrule:FILE",
         ),

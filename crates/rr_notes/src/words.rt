@@ -204,7 +204,7 @@ fn note_on_refusal_name(
     }
     let word = shown(alloc, word)?;
     Ok(Some(format!(in alloc;
-        "'{word}' is no refusal, as UtcMoment is: docs/REFUSALS.md lists them"
+        "'{word}' is no refusal, as UtcMoment is: docs/REFUSALS.md lists them, and docs/CALENDARS.md those of whole calendars"
     )?))
 }
 

@@ -1,6 +1,6 @@
 // Why moments in UTC stay what they are: a zone that an event names and that can't be read.
-ghost use Rattle.std.specs.Prelude.{◌<◌, ◌^◌};
-ghost use Rattle.rr_notes.specs.Visible.{IsVisibleNote};
+ghost use Rattle.std.specs.Prelude.{◌<◌, ◌^◌, IfOk};
+ghost use Rattle.rr_notes.specs.Visible.{IsVisibleIfSome, IsVisibleNote};
 
 use crate::again::bytes_again;
 use crate::visible::{shown, shown_bytes, visible};
@@ -38,7 +38,9 @@ pub fn note_on_zone(alloc: Global, file: &str, zone: &UnreadZone) -> Result<Stri
 }
 
 // Why a zone that an event of a file needs turns nothing, if there is one: the first of them, by the bytes of the file.
-fn note_on_zones(alloc: Global, file: &str, bytes: &[u8]) -> Result<Option<String>, AllocError> {
+fn note_on_zones(alloc: Global, file: &str, bytes: &[u8]) -> Result<Option<String>, AllocError>
+    ensures { IfOk result IsVisibleIfSome }
+{
     let Ok(unread) = unread_zones(alloc, bytes) else {
         return Ok(None);
     };
@@ -52,7 +54,11 @@ fn note_on_zones(alloc: Global, file: &str, bytes: &[u8]) -> Result<Option<Strin
 /// more than the limit. Nothing is noted of standard input, a pipe or a device, which can be read once.
 pub fn note_on_zones_of_file(rt: &HostRuntime, name: &str, limit: usize) -> Option<String>
     requires { limit < 2 ^ 62 }
+    ensures { IsVisibleIfSome result }
 {
     let bytes = bytes_again(rt, name, limit)?;
-    note_on_zones(rt.alloc(), name, bytes.as_slice()).ok()?
+    match note_on_zones(rt.alloc(), name, bytes.as_slice()) {
+        Ok(note) => note,
+        Err(_) => None,
+    }
 }

@@ -8,4 +8,4 @@ pub returns-in-Some-Comparison-clause-files : goal.returns-in-Some-Comparison-cl
 returns-in-Some-Comparison-clause-files g c =
     let request = rw c.in-Some-Comparison.is at c.in-Some-Comparison.field-0-is in
     fetched_for (g.S.Source.held c.args.source.now) (Some (comparison (request_in c.in-Some-Comparison.request))) (option_map asked_in c.args.asked)
-    c.fetch_both.result (sym (ap (option_map asked_in) (c.in-Some-Comparison.is ∙ ap Some request))) c.fetch_both.ensures.files
+    c.fetch_all.result (sym (ap (option_map asked_in) (c.in-Some-Comparison.is ∙ ap Some request))) c.fetch_all.ensures.files

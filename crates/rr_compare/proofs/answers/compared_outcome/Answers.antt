@@ -1,5 +1,6 @@
 use Rattle.std.proofs.lemmas.Result.{IfOk-weaker}
-use Rattle.rr_compare.specs.Calendars.{calendar_in}
+use Rattle.rr_compare.specs.Calendars.{calendar_in, calendar_of}
+use Rattle.rr_compare.specs.Names.{meaning_of_names}
 use Rattle.rr_compare.specs.Outcomes.{outcome_is, text_calendar}
 use Rattle.rr_compare.specs.Parsed.{request_in}
 use Rattle.rr_compare.proofs.AnswerLemmas.{read_a, refused_a}
@@ -7,14 +8,16 @@ use Rattle.rr_compare.proofs.answers.compared_outcome.Goals as goal
 
 pub returns-in-Ok : goal.returns-in-Ok
 returns-in-Ok g c =
+    let old = c.args.old in
     IfOk-weaker c.outcome_beside.result _ _
-    (λ x h. read_a (request_in c.args.request) (text_calendar c.args.old) (outcome_is x) (calendar_in c.in-Ok.a)
-    (text_calendar c.args.new) c.in-Ok.ensures h)
+    (λ x h. read_a (request_in c.args.request) (calendar_of old.language old.names.offset old.bytes.now) (meaning_of_names old.names) (outcome_is x)
+    (calendar_in c.in-Ok.a) (text_calendar c.args.new) c.in-Ok.ensures h)
     c.outcome_beside.ensures
 
 pub returns-in-Err : goal.returns-in-Err
 returns-in-Err g c =
+    let old = c.args.old in
     IfOk-weaker c.refusal_outcome.result _ _
-    (λ x h. refused_a (request_in c.args.request) (text_calendar c.args.old) (outcome_is x)
+    (λ x h. refused_a (request_in c.args.request) (calendar_of old.language old.names.offset old.bytes.now) (meaning_of_names old.names) (outcome_is x)
     (text_calendar c.args.new) c.in-Err.fault c.in-Err.ensures h)
     c.refusal_outcome.ensures

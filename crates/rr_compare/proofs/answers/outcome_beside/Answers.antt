@@ -1,20 +1,23 @@
 use Rattle.std.proofs.lemmas.Result.{IfOk-weaker}
-use Rattle.rr_compare.specs.Calendars.{calendar_in}
-use Rattle.rr_compare.specs.Outcomes.{outcome_is, text_calendar}
+use Rattle.rr_compare.specs.Calendars.{calendar_in, calendar_of}
+use Rattle.rr_compare.specs.Names.{meaning_of_names}
+use Rattle.rr_compare.specs.Outcomes.{outcome_is, zoned_in}
 use Rattle.rr_compare.specs.Parsed.{request_in}
 use Rattle.rr_compare.proofs.AnswerLemmas.{read_b, refused_b}
 use Rattle.rr_compare.proofs.answers.outcome_beside.Goals as goal
 
 pub returns-in-Ok : goal.returns-in-Ok
 returns-in-Ok g c =
+    let new = c.args.new in
     IfOk-weaker c.outcome_of_both.result _ _
-    (λ x h. read_b (request_in c.args.request) (text_calendar c.args.new) (outcome_is x) (calendar_in c.args.a.now)
-    (calendar_in c.in-Ok.b) c.in-Ok.ensures h)
+    (λ x h. read_b (request_in c.args.request) (calendar_of new.language new.names.offset new.bytes.now) (meaning_of_names new.names) (outcome_is x)
+    (zoned_in c.args.a.now c.args.names_a.now) (calendar_in c.in-Ok.b) c.in-Ok.ensures h)
     c.outcome_of_both.ensures
 
 pub returns-in-Err : goal.returns-in-Err
 returns-in-Err g c =
+    let new = c.args.new in
     IfOk-weaker c.refusal_outcome.result _ _
-    (λ x h. refused_b (request_in c.args.request) (text_calendar c.args.new) (outcome_is x) (calendar_in c.args.a.now)
-    c.in-Err.fault c.in-Err.ensures h)
+    (λ x h. refused_b (request_in c.args.request) (calendar_of new.language new.names.offset new.bytes.now) (meaning_of_names new.names) (outcome_is x)
+    (zoned_in c.args.a.now c.args.names_a.now) c.in-Err.fault c.in-Err.ensures h)
     c.refusal_outcome.ensures

@@ -1,5 +1,5 @@
-use Rattle.rr_graphfile.specs.Files.{calendar as own_calendar, calendar_in as own_calendar_in}
 use Rattle.rr_compare.specs.Calendars.{calendar_in}
+use Rattle.rr_compare.specs.Turned.{calendar as own_calendar, calendar_in as own_calendar_in}
 use Rattle.rr_compare.proofs.FileLemmas.{fault_as, read_as}
 use Rattle.rr_compare.proofs.file.read_graph.Goals as goal
 

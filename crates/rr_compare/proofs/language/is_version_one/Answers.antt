@@ -1,4 +1,4 @@
-use Rattle.rr_compare.proofs.LanguageLemmas.{none_said, not_said, said}
+use Rattle.rr_compare.proofs.LanguageLemmas.{none_said}
 use Rattle.rr_compare.proofs.language.is_version_one.Goals as goal
 
 pub returns : goal.returns
