@@ -11,6 +11,7 @@ use crate::plan::Plan;
 use crate::second::{Cycle, Extent, SecondDays, extent_of};
 use crate::start::{best_start, take_before};
 use crate::tail::{first_within, take_tail};
+use crate::target::Target;
 use rr_model::{GraphEvent, NoMemory, RangeEnd, Seconds};
 use rr_word::DaySeq;
 use std::alloc::Global;
@@ -21,6 +22,8 @@ const LEAST_GAIN: u32 = 3;
 /// Events that cover a set, one after another: those of a second of the day before those of a later one, and the endless ones
 /// first.
 ///
+/// For vCalendar 1.0 those events alone are tried that one rule of it has, but for the last day of a shorter month.
+///
 /// None where the events that are tried do not cover it, at most `most_parts` of them and with at most `most_exceptions`
 /// exceptions: occurrences of an event that the set lacks, and occurrences of the set that no event has. None also where the set
 /// has more seconds of the day than there may be events and exceptions; where it does not repeat from a day on that lies within
@@ -29,6 +32,7 @@ const LEAST_GAIN: u32 = 3;
 pub fn guesses<A: DaySeq>(
     alloc: Global,
     seq: &A,
+    target: Target,
     most_parts: usize,
     most_exceptions: usize,
 ) -> Result<Option<Vec<GraphEvent>>, NoMemory>
@@ -38,7 +42,7 @@ pub fn guesses<A: DaySeq>(
         (λ found. IfSome found (λ events. length events.items ≤ most_parts)) }
 {
     let mut plan = Plan::new(alloc, most_parts, most_exceptions);
-    if !covers(alloc, seq, &mut plan)? {
+    if !covers(alloc, seq, target, &mut plan)? {
         return Ok(None);
     }
     let events = plan.events.into_list();
@@ -49,11 +53,16 @@ pub fn guesses<A: DaySeq>(
 }
 
 // Whether events are found that cover the set, second by second.
-fn covers<A: DaySeq>(alloc: Global, seq: &A, plan: &mut Plan) -> Result<bool, NoMemory> {
+fn covers<A: DaySeq>(
+    alloc: Global,
+    seq: &A,
+    target: Target,
+    plan: &mut Plan,
+) -> Result<bool, NoMemory> {
     if seq.first().is_none() {
         return Ok(true);
     }
-    let Some(extent) = extent_of(seq) else {
+    let Some(extent) = extent_of(seq, target) else {
         return Ok(false);
     };
     let Some(seconds) = seconds_of(alloc, seq, &extent, plan)? else {

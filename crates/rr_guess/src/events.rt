@@ -95,6 +95,22 @@ pub(crate) fn event_of(
     })
 }
 
+/// The event that has each day from a day on, at a second of the day; None past the years 1 to 9999.
+pub fn each_day_from(kind: Kind, second: u32, day: i64) -> Option<GraphEvent>
+    ensures { IfSome result IsValidGraphEvent }
+{
+    let each_day = Pattern {
+        form: Form::Daily,
+        interval: 1,
+        day_of_month: 0,
+        month: 0,
+        days: 0,
+        first_day: 6,
+        index: 1,
+    };
+    event_of(kind, second, day, each_day, RangeEnd::NoEnd)
+}
+
 // Whether a day lies in the years 1 to 9999.
 fn has_four_digit_year(day: i64) -> bool
     ensures { result ≡ has_four_digit_year day }

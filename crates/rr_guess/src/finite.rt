@@ -6,7 +6,7 @@ use crate::order::{MANY_TURNS, Turn};
 use crate::picks::Picks;
 use crate::second::SecondDays;
 use crate::walk::Walk;
-use crate::weeks::{MANY_BESIDE, is_tried, weekdays_marked};
+use crate::weeks::{MANY_BESIDE, weekdays_marked};
 use rr_model::Form;
 
 /// How many days of a pattern a set has, and how many it lacks.
@@ -182,7 +182,7 @@ fn ask_weeks(days: &SecondDays, here: &Here, turn: &Turn, best: &mut Best, looks
     let own = weekday_bit(here.day.weekday);
     let marks = paying_days(days, here, turn, best, looks);
     for first_day in FIRST_DAYS {
-        if is_tried(turn, first_day) {
+        if days.target.has_weeks(turn.interval, first_day) {
             let weekdays = weekdays_marked(&marks, first_day, here.day.weekday) | own;
             ask(
                 days,

@@ -20,7 +20,10 @@ mod row;
 mod second;
 mod start;
 mod tail;
+mod target;
 mod walk;
 mod weeks;
 
 pub use cover::guesses;
+pub use events::each_day_from;
+pub use target::Target;

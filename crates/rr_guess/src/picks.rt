@@ -2,6 +2,8 @@
 use crate::candidate::Here;
 use crate::months::{Month, Pick, has_weekday_after};
 use crate::second::SecondDays;
+use crate::target::Target;
+use crate::weeks::many_weekdays;
 use rr_cal::Day;
 use rr_model::{Form, NoMemory};
 use std::alloc::Global;
@@ -26,7 +28,7 @@ impl Picks {
         picks.put_numbers(&here.day)?;
         if let Some(month) = days.months.get(here.month as usize) {
             for index in INDEXES {
-                picks.put_indexed(&here.day, month, index)?;
+                picks.put_indexed(&here.day, month, index, days.target)?;
             }
         }
         Ok(picks)
@@ -45,10 +47,17 @@ impl Picks {
     }
 
     // The weekdays of which it is the one of an index.
-    fn put_indexed(&mut self, day: &Day, month: &Month, index: i8) -> Result<(), NoMemory> {
+    fn put_indexed(
+        &mut self,
+        day: &Day,
+        month: &Month,
+        index: i8,
+        target: Target,
+    ) -> Result<(), NoMemory> {
         for weekdays in 1..128 {
             let pick = Pick::Indexed { index, weekdays };
-            if has_weekday_after(day.weekday, 0, weekdays)
+            if target.has_places(many_weekdays(weekdays))
+                && has_weekday_after(day.weekday, 0, weekdays)
                 && has_number(&pick, month, day.day_of_month)
             {
                 self.indexed.push(pick)?;

@@ -6,6 +6,7 @@ use crate::bounds::Looks;
 use crate::months::{Month, month_at, months_of};
 use crate::order::Turn;
 use crate::row::Row;
+use crate::target::Target;
 use rr_cal::Day;
 use rr_model::{Form, Kind, MAX_CYCLE_DAYS, NoMemory};
 use rr_num::lcm_within;
@@ -18,6 +19,8 @@ const DAYS_OF_400_YEARS: u64 = 146_097;
 /// Which days of a set are looked at.
 #[derive(Clone, Copy)]
 pub(crate) struct Extent {
+    /// In which language each event is to be said.
+    pub target: Target,
     /// Whether its occurrences are dates or moments.
     pub kind: Kind,
     /// The first of them, in days since 1970-01-01: the first of a month, seven days at least before each day of the set.
@@ -34,7 +37,7 @@ pub(crate) struct Extent {
 }
 
 /// The days of a set that is not empty, where they are not too many to be looked at.
-pub(crate) fn extent_of<A: DaySeq>(seq: &A) -> Option<Extent> {
+pub(crate) fn extent_of<A: DaySeq>(seq: &A, target: Target) -> Option<Extent> {
     let occupied = seq.first()?;
     let period = least_period(seq);
     let start = least_start(seq, period);
@@ -44,6 +47,7 @@ pub(crate) fn extent_of<A: DaySeq>(seq: &A) -> Option<Extent> {
         return None;
     }
     Some(Extent {
+        target,
         kind: seq.kind(),
         first,
         settled,
@@ -122,6 +126,8 @@ impl Cycle {
 /// The days of a set at one second: those before the settled day, and as many from it on as tell the rest.
 #[derive(Drop)]
 pub(crate) struct SecondDays {
+    /// In which language each event is to be said.
+    pub target: Target,
     /// Whether its occurrences are dates or moments.
     pub kind: Kind,
     /// The second, 0 for dates.
@@ -224,6 +230,7 @@ fn with_months(
     let months = months_of(alloc, extent.first, days)?;
     let settled_month = month_at(months.as_slice(), extent.settled).unwrap_or(0);
     Ok(SecondDays {
+        target: extent.target,
         kind: extent.kind,
         second,
         row,

@@ -5,7 +5,7 @@ use crate::order::{MANY_TURNS, Turn};
 use crate::picks::Picks;
 use crate::second::{Cycle, SecondDays};
 use crate::walk::Walk;
-use crate::weeks::{MANY_BESIDE, is_tried, many_weekdays, weekdays_marked};
+use crate::weeks::{MANY_BESIDE, many_weekdays, weekdays_marked};
 use rr_model::Form;
 
 /// The first pattern, in the order of intervals, that has a day and from the settled day on no day that the set lacks.
@@ -74,7 +74,7 @@ fn of_weeks(days: &SecondDays, here: &Here, turn: &Turn, looks: &mut Looks) -> O
     let mut most = 0;
     for first_day in FIRST_DAYS {
         let weekdays = weekdays_marked(&marks, first_day, here.day.weekday);
-        if is_tried(turn, first_day) && many_weekdays(weekdays) > most {
+        if days.target.has_weeks(turn.interval, first_day) && many_weekdays(weekdays) > most {
             best = Some(Candidate::by_weeks(turn, first_day, weekdays));
             most = many_weekdays(weekdays);
         }

@@ -1,15 +1,9 @@
 // The weekdays of weekly patterns that have a day.
 use crate::candidate::days_into_week;
 use crate::months::{has_weekday_after, weekday_after, weekday_bit};
-use crate::order::Turn;
 
 /// How many days stand in one week with a day, whatever the first weekday: six before it and six after it.
 pub(crate) const MANY_BESIDE: usize = 13;
-
-/// Whether weeks from a weekday on are tried with an interval: where each week counts, those from Sunday alone.
-pub(crate) fn is_tried(turn: &Turn, first_day: u8) -> bool {
-    turn.interval > 1 || first_day == 6
-}
 
 /// The sum of the weekdays of the week of a day that are marked, where marks stand for the days from six before it on.
 pub(crate) fn weekdays_marked(marks: &[bool; MANY_BESIDE], first_day: u8, weekday: u8) -> u8 {

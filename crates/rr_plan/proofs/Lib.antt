@@ -2,3 +2,4 @@ pub mod FewLemmas
 pub mod MoreLemmas
 pub mod OneLemmas
 pub mod SplitLemmas
+pub mod AgreeLemmas

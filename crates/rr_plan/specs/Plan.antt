@@ -47,23 +47,41 @@ many_cancelled = sum_by (λ part. length part.cancelled)
 -- ---- the whole
 
 -- an occurrence of one of the parts, or of the rest
+abbrev pub IsMadeBy : {X : Type 0} → (X → Occurrences) → List X → Occurrences → Occurrences
+IsMadeBy kept [] rest k t = rest k t
+IsMadeBy kept (part ∷ parts) rest k t = kept part k t ⊎ IsMadeBy kept parts rest k t
+
+-- no occurrence is one of two parts, or of a part and the rest
+abbrev pub AreApartBy : {X : Type 0} → (X → Occurrences) → List X → Occurrences → Type 0
+AreApartBy kept [] rest = ⊤
+AreApartBy kept (part ∷ parts) rest = ((k : Kind) (t : ℤ) → kept part k t → IsMadeBy kept parts rest k t → ⊥) × AreApartBy kept parts rest
+
+-- The parts and the rest have exactly the occurrences of a set, and each of them once.
+pub record IsSplitBy {X : Type 0} (IsOne : X → Type 0) (kept : X → Occurrences) (P : Occurrences) (parts : List X) (rest : Occurrences) : Type 0 where
+  pub each : All IsOne parts
+  pub equal : HaveEqualOccurrences (IsMadeBy kept parts rest) P
+  pub apart : AreApartBy kept parts rest
+
+-- one part more is taken from the rest: what it keeps and what is left are the rest, and apart
+pub record IsTakenBy {X : Type 0} (IsOne : X → Type 0) (kept : X → Occurrences) (rest : Occurrences) (part : X) (left : Occurrences) : Type 0 where
+  pub is_part : IsOne part
+  pub equal : (k : Kind) (t : ℤ) → (kept part k t ⊎ left k t → rest k t) × (rest k t → kept part k t ⊎ left k t)
+  pub apart : (k : Kind) (t : ℤ) → kept part k t → left k t → ⊥
+
+-- ---- of parts of Microsoft Graph
+
+-- an occurrence of one of the parts, or of the rest
 abbrev pub IsMade : List Part → Occurrences → Occurrences
-IsMade [] rest k t = rest k t
-IsMade (part ∷ parts) rest k t = IsKept part k t ⊎ IsMade parts rest k t
+IsMade parts rest = IsMadeBy IsKept parts rest
 
 -- no occurrence is one of two parts, or of a part and the rest
 abbrev pub AreApart : List Part → Occurrences → Type 0
-AreApart [] rest = ⊤
-AreApart (part ∷ parts) rest = ((k : Kind) (t : ℤ) → IsKept part k t → IsMade parts rest k t → ⊥) × AreApart parts rest
+AreApart parts rest = AreApartBy IsKept parts rest
 
 -- The parts and the rest have exactly the occurrences of a set, and each of them once.
-pub record IsSplit (P : Occurrences) (parts : List Part) (rest : Occurrences) : Type 0 where
-  pub each : All IsPart parts
-  pub equal : HaveEqualOccurrences (IsMade parts rest) P
-  pub apart : AreApart parts rest
+abbrev pub IsSplit : Occurrences → List Part → Occurrences → Type 0
+IsSplit P parts rest = IsSplitBy IsPart IsKept P parts rest
 
--- one part more is taken from the rest: what it keeps and what is left are the rest, and apart
-pub record IsTaken (rest : Occurrences) (part : Part) (left : Occurrences) : Type 0 where
-  pub is_part : IsPart part
-  pub equal : (k : Kind) (t : ℤ) → (IsKept part k t ⊎ left k t → rest k t) × (rest k t → IsKept part k t ⊎ left k t)
-  pub apart : (k : Kind) (t : ℤ) → IsKept part k t → left k t → ⊥
+-- one part more is taken from the rest
+abbrev pub IsTaken : Occurrences → Part → Occurrences → Type 0
+IsTaken rest part left = IsTakenBy IsPart IsKept rest part left

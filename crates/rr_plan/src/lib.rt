@@ -3,7 +3,9 @@
 #![tactic(auto)]
 
 mod few;
+mod laws;
 mod part;
 
 pub use few::few_moments;
+pub use laws::agreement_is_settled;
 pub use part::Part;

@@ -1,2 +1,4 @@
 pub mod TextLemmas
 pub mod MomentLemmas
+pub mod RisingLemmas
+pub mod VcalLemmas

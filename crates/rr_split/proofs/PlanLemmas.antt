@@ -1,7 +1,6 @@
 -- Plans: of one event alone, and of parts that were taken one after another.
-use Rattle.std.proofs.Common.{◌≡◌, ℕ, ◌+◌, ◌-◌, ◌≤◌, List, [], ◌∷◌, ◌++◌, get_or, length, length-append, ℤ, inr, refl, sym, ap, subst, ◌∙◌, arith}
+use Rattle.std.proofs.Common.{◌≡◌, ℕ, ◌+◌, ◌≤◌, List, [], ◌∷◌, get_or, length, ℤ, refl, sym, ap, subst, ◌∙◌, arith}
 use Rattle.std.specs.Prelude.{None, Some, int_lt}
-use Rattle.std.proofs.lemmas.List.Sums.{sum_by_push}
 use Rattle.std.proofs.lemmas.List.Elements.{All-nil, Contains-get_or}
 use Rattle.rr_family.proofs.FirstLemmas.{one_first_pattern}
 use Rattle.rr_graphfind.specs.Found.{IsFirstRepeat, IsGraphFound}
@@ -18,13 +17,14 @@ use Rattle.rr_model.specs.declared.graph.Repeat.TheVariants as repeat
 use Rattle.rr_model.specs.declared.kind.Kind.{Kind}
 use Rattle.rr_model.specs.declared.sketch.Sketch.{Sketch}
 use Rattle.rr_plan.specs.Few.{IsOneOf}
-use Rattle.rr_plan.specs.Plan.{AreWithin, BeginsOnPattern, IsMade, IsSplit, IsTaken, many_cancelled, whole_event}
+use Rattle.rr_plan.specs.Plan.{AreWithin, BeginsOnPattern, IsKept, IsPart, IsSplit, many_cancelled, whole_event}
 use Rattle.rr_plan.specs.declared.part.Part.{Part}
 use Rattle.rr_plan.proofs.OneLemmas.{split_of_one}
-use Rattle.rr_plan.proofs.SplitLemmas.{split_begins, split_grows, split_rests}
+use Rattle.rr_plan.proofs.SplitLemmas.{split_begins}
 use Rattle.rr_split.specs.Promise.{IsEventAlone, IsPlanOf}
 use Rattle.rr_split.specs.declared.limits.TheConstants.{MAX_EXCEPTIONS}
 use Rattle.rr_split.specs.declared.split.Plan.{Plan}
+use Rattle.rr_split.proofs.SoFarLemmas.{kind_of_rest, split_into_single}
 
 -- ---- the event of the first pattern
 
@@ -81,60 +81,9 @@ alone_is_plan s most event plan some found alone of_kind =
 
 -- ---- parts, one after another
 
--- of n events parts were taken, so that they and the rest are the set
-abbrev pub TakenSoFar : Sketch → Sketch → List Part → ℕ → ℕ → Type 0
-TakenSoFar s rest parts room n = IsSplit (StandsIn s) parts (StandsIn rest) × (length parts ≤ n) × (many_cancelled parts + room ≡ MAX_EXCEPTIONS)
-
--- nothing is taken yet
-pub none_taken : (s : Sketch) (parts : List Part) → parts ≡ [] → TakenSoFar s s parts MAX_EXCEPTIONS 0
-none_taken s parts is =
-    subst (λ ps. TakenSoFar s s ps MAX_EXCEPTIONS 0) (sym is) (split_begins (StandsIn s), omega arith, refl)
-
--- one more is taken
-pub one_taken : (s rest left new_rest : Sketch) (parts new : List Part) (part : Part) (room new_room n : ℕ) → TakenSoFar s rest parts room n
-    → IsTaken (StandsIn rest) part (StandsIn left) → length part.cancelled ≤ room → new ≡ parts ++ part ∷ [] → new_rest ≡ left
-    → new_room ≡ room - length part.cancelled → TakenSoFar s new_rest new new_room (n + 1)
-one_taken s rest left new_rest parts new part room new_room n so_far taken few grown is_left less =
-    let long = length-append parts (part ∷ []) in
-    let many : many_cancelled (parts ++ part ∷ []) ≡ many_cancelled parts + length part.cancelled =
-    sum_by_push (λ (p : Part). length p.cancelled) parts part in
-    let short = so_far.1 in
-    let all = so_far.2 in
-    subst (λ ps. TakenSoFar s new_rest ps new_room (n + 1)) (sym grown)
-    (subst (λ r. TakenSoFar s r (parts ++ part ∷ []) new_room (n + 1)) (sym is_left) (
-      split_grows (StandsIn s) (StandsIn rest) (StandsIn left) parts part so_far.0 taken,
-      omega (arith, long, short),
-      omega (arith, many, all, few, less),
-    ))
-
--- an event is passed over
-pub passed_over : (s rest new_rest : Sketch) (parts new : List Part) (room new_room n : ℕ) → TakenSoFar s rest parts room n
-    → new ≡ parts → new_rest ≡ rest → new_room ≡ room → TakenSoFar s new_rest new new_room (n + 1)
-passed_over s rest new_rest parts new room new_room n so_far same same_rest same_room =
-    let short = so_far.1 in
-    subst (λ ps. TakenSoFar s new_rest ps new_room (n + 1)) (sym same)
-    (subst (λ r. TakenSoFar s r parts new_room (n + 1)) (sym same_rest)
-    (subst (λ m. TakenSoFar s rest parts m (n + 1)) (sym same_room) (so_far.0, omega (arith, short), so_far.2)))
-
--- ---- parts, and single ones of what is left
-
-made_of_rest : (parts : List Part) (rest : Occurrences) (k : Kind) (t : ℤ) → rest k t → IsMade parts rest k t
-made_of_rest [] rest k t h = h
-made_of_rest (p ∷ ps) rest k t h = inr (made_of_rest ps rest k t h)
-
--- the single ones are what is left, of the set's own kind
-rest_is_single : (s rest : Sketch) (parts : List Part) (single : List ℤ) → IsSplit (StandsIn s) parts (StandsIn rest)
-    → HaveEqualOccurrences (IsOneOf rest.kind single) (StandsIn rest) → HaveEqualOccurrences (StandsIn rest) (IsOneOf s.kind single)
-rest_is_single s rest parts single split equal k t = (
-  (λ stands. record {
-    same_kind = ((split.equal k t).0 (made_of_rest parts (StandsIn rest) k t stands)).kind;
-    there = ((equal k t).1 stands).there;
-  }),
-  (λ one.
-      let stands = (equal rest.kind t).0 (record { same_kind = refl; there = one.there }) in
-      let same : rest.kind ≡ s.kind = ((split.equal rest.kind t).0 (made_of_rest parts (StandsIn rest) rest.kind t stands)).kind in
-      subst (λ l. StandsIn rest l t) (same ∙ sym one.same_kind) stands),
-)
+-- what a part cancels
+abbrev pub cancelled_of : Part → List ℤ
+cancelled_of part = part.cancelled
 
 -- the single ones are within the limit, since what is left has no other kind than the set
 within_of_kind : (s rest : Sketch) (parts : List Part) (single : List ℤ) (kind : Kind) → IsSplit (StandsIn s) parts (StandsIn rest)
@@ -142,7 +91,7 @@ within_of_kind : (s rest : Sketch) (parts : List Part) (single : List ℤ) (kind
 within_of_kind s rest parts single kind split equal of_kind within i d l =
     let t = get_or single i d in
     let stands = (equal rest.kind t).0 (record { same_kind = refl; there = Contains-get_or single i d l }) in
-    let same : rest.kind ≡ s.kind = ((split.equal rest.kind t).0 (made_of_rest parts (StandsIn rest) rest.kind t stands)).kind in
+    let same : rest.kind ≡ s.kind = kind_of_rest IsPart IsKept cancelled_of s rest parts single split equal rest.kind t stands in
     subst (λ k. IsDayWithin 0 (day_part k t)) (same ∙ sym of_kind) (within i d l)
 
 pub parts_are_plan : (s rest : Sketch) (most room : ℕ) (plan : Plan) → IsGraphFound (StandsIn s) None
@@ -150,9 +99,7 @@ pub parts_are_plan : (s rest : Sketch) (most room : ℕ) (plan : Plan) → IsGra
     → plan.kind ≡ s.kind → length plan.parts.items ≤ most → many_cancelled plan.parts.items + room ≡ MAX_EXCEPTIONS → length plan.single ≤ room
     → Rises int_lt plan.single → AreWithin rest.kind plan.single → IsPlanOf most s plan
 parts_are_plan s rest most room plan none split equal of_kind few many single rises within = record {
-  split = subst (λ l. IsSplit (StandsIn s) plan.parts.items (IsOneOf l plan.single)) (sym of_kind)
-      (split_rests (StandsIn s) (StandsIn rest) (IsOneOf s.kind plan.single) plan.parts.items split
-      (rest_is_single s rest plan.parts.items plan.single split equal));
+  split = split_into_single IsPart IsKept cancelled_of s rest plan.parts.items plan.single split equal plan.kind of_kind;
   few = few;
   few_exceptions = omega (arith, many, single);
   rises = rises;
@@ -169,5 +116,5 @@ single_is_plan s most plan none no_parts equal of_kind few rises within =
     let long : length plan.parts.items ≡ 0 = ap length no_parts in
     let kept : many_cancelled plan.parts.items ≡ 0 = ap many_cancelled no_parts in
     parts_are_plan s s most MAX_EXCEPTIONS plan none
-    (subst (λ ps. IsSplit (StandsIn s) ps (StandsIn s)) (sym no_parts) (split_begins (StandsIn s))) equal of_kind
+    (subst (λ ps. IsSplit (StandsIn s) ps (StandsIn s)) (sym no_parts) (split_begins IsPart IsKept (StandsIn s))) equal of_kind
     (omega (arith, long)) (omega (arith, kept)) few rises within

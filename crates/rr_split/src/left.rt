@@ -4,12 +4,13 @@ ghost use Rattle.rr_model.specs.Sets.Sketch.{IsNearDay};
 ghost use Rattle.rr_model.specs.Whole.Divisors.{lcm};
 ghost use Rattle.rr_model.specs.declared.limits.TheConstants.{MAX_CYCLE_DAYS};
 ghost use Rattle.rr_days.specs.Sequence.{sketch};
-ghost use Rattle.rr_split.specs.Left.{AreCombinable, IsLeft};
+ghost use Rattle.rr_split.specs.Left.{AreCombinable, IsBeyond, IsLeft};
 
 use rr_algebra::{Op, combine};
 use rr_days::Folded;
-use rr_model::{Fault, MAX_CYCLE_DAYS, NoMemory};
+use rr_model::{Dates, Fault, MAX_CYCLE_DAYS, NoMemory};
 use rr_num::lcm_within;
+use rr_plan::few_moments;
 use rr_word::{DaySeq, days_between};
 use std::alloc::Global;
 
@@ -31,6 +32,74 @@ pub(crate) fn without(
         return Ok(None);
     }
     difference(alloc, one, other)
+}
+
+/// The occurrences of one set that another has not; None if more than `most_days` days were read for it, if they are more than
+/// `most` or without end, or if they are all that the set has.
+pub(crate) fn beyond(
+    alloc: Global,
+    rest: &Folded,
+    days: &Folded,
+    most: usize,
+    most_days: u64,
+) -> Result<Option<Dates>, NoMemory>
+    ensures { IfOk result (λ found. IfSome found
+        (IsBeyond (sketch days.now) (sketch rest.now) most)) }
+{
+    let Some(over) = without(alloc, days, rest, most_days)? else {
+        return Ok(None);
+    };
+    let Some(moments) = few_moments(alloc, &over, most)? else {
+        return Ok(None);
+    };
+    match few_moments(alloc, days, moments.len())? {
+        None => Ok(Some(moments)),
+        Some(_) => Ok(None),
+    }
+}
+
+/// What either of two sets has; None if more than `most_days` days were read for it, or if it has too many moments.
+pub(crate) fn union(
+    alloc: Global,
+    one: &Folded,
+    other: &Folded,
+    most_days: u64,
+) -> Result<Option<Folded>, NoMemory> {
+    if !are_compared_within(one, other, most_days) {
+        return Ok(None);
+    }
+    combined(alloc, Op::Union, one, other)
+}
+
+/// What both of two sets have; None if more than `most_days` days were read for it.
+pub(crate) fn common(
+    alloc: Global,
+    one: &Folded,
+    other: &Folded,
+    most_days: u64,
+) -> Result<Option<Folded>, NoMemory> {
+    if !are_compared_within(one, other, most_days) {
+        return Ok(None);
+    }
+    combined(alloc, Op::Common, one, other)
+}
+
+// What two sets are combined into; None if they repeat together only after too many days, or it has too many moments.
+fn combined(
+    alloc: Global,
+    op: Op,
+    one: &Folded,
+    other: &Folded,
+) -> Result<Option<Folded>, NoMemory> {
+    let combinable = are_combinable(one, other);
+    if !combinable {
+        return Ok(None);
+    }
+    match combine(alloc, op, one, other) {
+        Ok(both) => Ok(Some(both)),
+        Err(Fault::NoMemory) => Err(NoMemory),
+        Err(Fault::Refused(_)) => Ok(None),
+    }
 }
 
 // Whether two sets are compared over at most so many days.

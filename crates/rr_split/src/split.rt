@@ -14,7 +14,7 @@ use crate::limits::{MAX_DAYS_COMPARED, MAX_EXCEPTIONS, MAX_PARTS};
 use crate::take::{Taken, take_part};
 use rr_days::Folded;
 use rr_graphfind::graph_of;
-use rr_guess::guesses;
+use rr_guess::{Target, guesses};
 use rr_model::{Dates, GraphEvent, Kind, NoMemory};
 use rr_plan::{Part, few_moments};
 use rr_word::DaySeq;
@@ -91,7 +91,14 @@ fn plan_by_guesses(alloc: Global, days: Folded, most: usize) -> Result<Option<Pl
     requires { IsGraphFound (StandsIn (sketch days)) None }
     ensures { IfOk result (λ found. IfSome found (IsPlanOf most (sketch days))) }
 {
-    let Some(events) = guesses(alloc, &days, most_parts(most), MAX_EXCEPTIONS)? else {
+    let Some(events) = guesses(
+        alloc,
+        &days,
+        Target::Graph,
+        most_parts(most),
+        MAX_EXCEPTIONS,
+    )?
+    else {
         return Ok(None);
     };
     let kind = days.kind();

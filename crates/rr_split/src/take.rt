@@ -6,10 +6,10 @@ ghost use Rattle.rr_model.specs.Sets.Sketch.{StandsFor, StandsIn};
 ghost use Rattle.rr_days.specs.Sequence.{sketch};
 ghost use Rattle.rr_plan.specs.Plan.{BeginsOnPattern, IsTaken};
 
-use crate::left::without;
+use crate::left::{beyond, without};
 use rr_days::Folded;
 use rr_model::{GraphEvent, NoMemory};
-use rr_plan::{Part, few_moments};
+use rr_plan::Part;
 use std::alloc::Global;
 
 /// A part of a set, and what is left of the set without it.
@@ -21,8 +21,8 @@ pub(crate) struct Taken {
     pub left: Folded,
 }
 
-/// Takes an event out of a set. What the event has and the set has not is cancelled; None if that is more than `most`, or without
-/// end, or if the two repeat together only after more than `most_days` days.
+/// Takes an event out of a set. What the event has and the set has not is cancelled; None if that is all of the event, more than
+/// `most`, or without end, or if the two repeat together only after more than `most_days` days.
 ///
 /// `days` are those of the event. The two sets are read twice, over the days from the first occupied one of both up to a common
 /// period past both settled days, which may be `most_days` days.
@@ -41,10 +41,7 @@ pub(crate) fn take_part(
         IsTaken (StandsIn (sketch rest.now)) taken.part (StandsIn (sketch taken.left)))) }
     ensures few { IfOk result (λ found. IfSome found (λ taken. length taken.part.cancelled ≤ most)) }
 {
-    let Some(over) = without(alloc, days, rest, most_days)? else {
-        return Ok(None);
-    };
-    let Some(cancelled) = few_moments(alloc, &over, most)? else {
+    let Some(cancelled) = beyond(alloc, rest, days, most, most_days)? else {
         return Ok(None);
     };
     let Some(left) = without(alloc, rest, days, most_days)? else {
