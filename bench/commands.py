@@ -65,7 +65,8 @@ class Table:
         return [command for group in self.groups for command in group.commands]
 
     def names(self, kind=None):
-        return [it.name for group in self.groups for it in group.commands if kind in (None, group.told["takes"])]
+        """The names, each once: a command that takes words of its own has a line for each of them."""
+        return list(dict.fromkeys(it.name for group in self.groups for it in group.commands if kind in (None, group.told["takes"])))
 
 
 def fail(said):
@@ -184,7 +185,7 @@ def synopsis(table):
 
 def places(table, is_such):
     """The places of words that are such, as number:name; the first word after the name is number 3."""
-    return [f"{3 + place}:{it.name}" for it in table.commands() for place, word in enumerate(it.words) if is_such(word)]
+    return list(dict.fromkeys(f"{3 + place}:{it.name}" for it in table.commands() for place, word in enumerate(it.words) if is_such(word)))
 
 
 def plain_places(table):
@@ -208,12 +209,12 @@ def fish(table):
         for place, word in enumerate(command.words):
             if word in OPERANDS:
                 asked.setdefault(2 + place, []).append(command.name)
-    operands = "; or ".join(f"__rr_at {place} {' '.join(asked[place])}" for place in sorted(asked))
+    operands = "; or ".join(f"__rr_at {place} {' '.join(dict.fromkeys(asked[place]))}" for place in sorted(asked))
     return f"""set -g __rr_languages {' '.join(table.languages)}
 complete -c rr -n '__rr_at 1; or __rr_at 2 help' -a '{' '.join(table.names())}'
 complete -c rr -n '__rr_at 2 translate' -a '{' '.join(targets(table))}'
 complete -c rr -n '__rr_at 2 explain' -a '{' '.join(refusals())}'
-complete -c rr -n '__rr_at 3 split' -a graph
+complete -c rr -n '__rr_at 3 split' -a 'graph vcal'
 complete -c rr -n '{operands}' -a '(__rr_operands)'
 """
 
@@ -336,12 +337,20 @@ def constant(name, text):
     return f'{begun}{" " if len(begun) + len(first) + 3 <= 100 else chr(10) + "    "}b"{text}";\n\n'
 
 
+# What a caller is told of each lookup.
+DOCSTRINGS = {
+    "help_of": "What a command prints and takes, as `help COMMAND` says it; None exactly if there is no command of this name.",
+    "explanation_of": "What a refusal means and what to do, as `explain NAME` says it; None exactly if there is no refusal of this name.",
+}
+
+
 def code_pages(table):
     made, lookups = texts(table)
     lines = "".join(constant(name, text) for name, text in made.items())
     for function, named in lookups.items():
         arms = "".join(f'        "{word}" => Some({name}),\n' for word, name in named.items())
-        lines += f"""pub fn {function}(name: &str) -> Option<&'static [u8]>
+        lines += f"""/// {DOCSTRINGS[function]}
+pub fn {function}(name: &str) -> Option<&'static [u8]>
     ensures {{ option_map (λ t. t.now) result ≡ {function} name.now }}
 {{
     match name {{

@@ -24,7 +24,7 @@ _rr() {
         return
         ;;
     4:split)
-        mapfile -t COMPREPLY < <(compgen -W graph -- "$current")
+        mapfile -t COMPREPLY < <(compgen -W 'graph vcal' -- "$current")
         return
         ;;
     3:help)

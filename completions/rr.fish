@@ -24,6 +24,6 @@ set -g __rr_languages rrule vcal graph list canon rscale
 complete -c rr -n '__rr_at 1; or __rr_at 2 help' -a 'equal within disjoint clear differences check list from between nth rank canon canon1 union common minus translate split infer drill help explain version'
 complete -c rr -n '__rr_at 2 translate' -a 'rrule vcal graph'
 complete -c rr -n '__rr_at 2 explain' -a 'TooLong NotText BadLine SeveralEvents NoStart BadMoment MixedKinds BadRule PartTwice NumberRange UntilAndCount NotAllowed LeapSecond UtcMoment UntilKind UntilBeforeStart NotSynchronised PeriodValue Extended BadJson BadMember StartDiffers NoOccurrence IntervalTooLarge CycleTooLong CountedTooFar TooManyMoments NotSayable TooManyParts NotCanonical MixedSets PastRange NotRising'
-complete -c rr -n '__rr_at 3 split' -a graph
+complete -c rr -n '__rr_at 3 split' -a 'graph vcal'
 complete -c rr -n '__rr_at 2 equal within disjoint check canon canon1 union common minus infer; or __rr_at 3 equal within disjoint clear differences list nth rank union common minus translate; or __rr_at 4 differences from between split; or __rr_at 5 clear' -a '(__rr_operands)'
 # commands.txt: END

@@ -4,11 +4,11 @@ use Rattle.std.specs.Prelude.{ℕ, List, Option, Some, None, if◌then◌else◌
 -- commands.txt: BEGIN (bench/commands.py writes these lines)
 -- the page of help
 abbrev pub help : List ℕ
-help = codes "rr says whether a repeating series survived a trip between calendars, for all years to come.\n\n  rr equal A B           yes, or the first occurrence that only one of them has, and which\n  rr within A B          yes, or the first occurrence of A that B lacks\n  rr disjoint A B        yes, or the first common occurrence\n  rr clear D A E B       yes, or the first second at which A, for D seconds, and B, for E seconds, both run\n  rr differences N A B   the first N occurrences that exactly one of A and B has, one a line, each with its side\n  rr check A             the days after which the series repeats, or why it is refused\n  rr list N A            the first N occurrences, one a line\n  rr from MOMENT N A     the first N occurrences that do not come before a date or a moment, one a line\n  rr between FROM TO A   the occurrences that do not come before FROM and come before TO, one a line\n  rr nth N A             the N-th occurrence; rank MOMENT A: how many come no later than a date or a moment\n  rr canon A             the canonical text: equal bytes exactly for equal occurrences; canon1 A writes its first version\n  rr union A B           the canonical text of what either has; common A B: of what both have; minus A B: of what A alone has\n  rr translate LANG A    the same occurrences in another language: rrule, vcal or graph\n  rr split N graph A     a plan for Microsoft Graph: at most N series, instances of them to cancel, and single events\n  rr infer A             the first single rule that has the occurrences\n  rr drill SEED N        how many verdicts between N drawn series are yes\n  rr help [COMMAND]      this page, or what COMMAND prints; explain REFUSAL: what a refusal means, and what to do; version: the release\n\nA and B are LANG:FILE or LANG@OFFSET:FILE. OFFSET is as +01:00, or zone, which reads moments in UTC by the VTIMEZONE of the file\n(rrule and rscale); FILE is a file, or - for standard input, and LANG one of\n\n  rrule    iCalendar\n  vcal     vCalendar 1.0\n  graph    the JSON of Microsoft Graph\n  list     dates, one a line\n  canon    a canonical text\n  rscale   iCalendar with RSCALE and SKIP, RFC 7529\n\n  rr check rrule:event.ics\n  rr equal rrule:sent.ics graph:received.json\n  rr translate vcal rrule:event.ics >event.vcs\n\nThe status is 0 for yes or done, 1 for no, 2 if an operand is refused, 3 for words that are no command, 4 if an operand could not be\nread, 5 if the output could not be written, 6 out of memory, 7 if a word is no text in UTF-8.\n\n'rr help COMMAND' says more of a command, as 'rr help list', and 'rr explain REFUSAL' of a refusal, as 'rr explain UtcMoment'. The manual is\ndocs/MANUAL.md, and share/doc/rr/MANUAL.md in the folder of an installation.\n"
+help = codes "rr says whether a repeating series survived a trip between calendars, for all years to come.\n\n  rr equal A B           yes, or the first occurrence that only one of them has, and which\n  rr within A B          yes, or the first occurrence of A that B lacks\n  rr disjoint A B        yes, or the first common occurrence\n  rr clear D A E B       yes, or the first second at which A, for D seconds, and B, for E seconds, both run\n  rr differences N A B   the first N occurrences that exactly one of A and B has, one a line, each with its side\n  rr check A             the days after which the series repeats, or why it is refused\n  rr list N A            the first N occurrences, one a line\n  rr from MOMENT N A     the first N occurrences that do not come before a date or a moment, one a line\n  rr between FROM TO A   the occurrences that do not come before FROM and come before TO, one a line\n  rr nth N A             the N-th occurrence; rank MOMENT A: how many come no later than a date or a moment\n  rr canon A             the canonical text: equal bytes exactly for equal occurrences; canon1 A writes its first version\n  rr union A B           the canonical text of what either has; common A B: of what both have; minus A B: of what A alone has\n  rr translate LANG A    the same occurrences in another language: rrule, vcal or graph\n  rr split N graph A     a plan for Microsoft Graph: at most N series, instances of them to cancel, and single events; vcal: events of vCalendar 1.0\n  rr infer A             the first single rule that has the occurrences\n  rr drill SEED N        how many verdicts between N drawn series are yes\n  rr help [COMMAND]      this page, or what COMMAND prints; explain REFUSAL: what a refusal means, and what to do; version: the release\n\nA and B are LANG:FILE or LANG@OFFSET:FILE. OFFSET is as +01:00, or zone, which reads moments in UTC by the VTIMEZONE of the file\n(rrule and rscale); FILE is a file, or - for standard input, and LANG one of\n\n  rrule    iCalendar\n  vcal     vCalendar 1.0\n  graph    the JSON of Microsoft Graph\n  list     dates, one a line\n  canon    a canonical text\n  rscale   iCalendar with RSCALE and SKIP, RFC 7529\n\n  rr check rrule:event.ics\n  rr equal rrule:sent.ics graph:received.json\n  rr translate vcal rrule:event.ics >event.vcs\n\nThe status is 0 for yes or done, 1 for no, 2 if an operand is refused, 3 for words that are no command, 4 if an operand could not be\nread, 5 if the output could not be written, 6 out of memory, 7 if a word is no text in UTF-8.\n\n'rr help COMMAND' says more of a command, as 'rr help list', and 'rr explain REFUSAL' of a refusal, as 'rr explain UtcMoment'. The manual is\ndocs/MANUAL.md, and share/doc/rr/MANUAL.md in the folder of an installation.\n"
 
 -- the line that names the release
 abbrev pub version : List ℕ
-version = codes "rr 0.15.0\n"
+version = codes "rr 0.16.0\n"
 
 -- what a command prints and takes, if there is a command of this name
 abbrev pub help_of : List ℕ → Option (List ℕ)
@@ -30,7 +30,7 @@ help_of name =
     else if bytes_eq name (codes "common") then Some (codes "rr union A B\nrr common A B\nrr minus A B\n\nIt prints the canonical text of what either has, of what both have, of what A alone has.\nA and B are LANG:FILE or LANG@OFFSET:FILE, as rrule:event.ics; LANG is rrule, vcal, graph, list, canon or rscale.\n")
     else if bytes_eq name (codes "minus") then Some (codes "rr union A B\nrr common A B\nrr minus A B\n\nIt prints the canonical text of what either has, of what both have, of what A alone has.\nA and B are LANG:FILE or LANG@OFFSET:FILE, as rrule:event.ics; LANG is rrule, vcal, graph, list, canon or rscale.\n")
     else if bytes_eq name (codes "translate") then Some (codes "rr translate LANG A\n\nIt prints the same occurrences as rrule, vcal or graph; refused A NotSayable if no single rule (vcal) or pattern (graph) that is looked for has them.\nLANG is rrule, vcal or graph.\nA is LANG:FILE or LANG@OFFSET:FILE, as rrule:event.ics; LANG is rrule, vcal, graph or list, and with graph also rscale.\n")
-    else if bytes_eq name (codes "split") then Some (codes "rr split N graph A\n\nIt prints a plan for Microsoft Graph: at most N series, the instances of them to cancel and single events, which together have exactly the occurrences, each once; refused A NotSayable if the parts that are tried one after another do not lead there.\nN is a number from 1 to 64.\nA is LANG:FILE or LANG@OFFSET:FILE, as rrule:event.ics; LANG is rrule, vcal, graph, list, canon or rscale.\n")
+    else if bytes_eq name (codes "split") then Some (codes "rr split N graph A\nrr split N vcal A\n\nIt prints a plan for Microsoft Graph: at most N series, the instances of them to cancel and single events, which together have exactly the occurrences, each once; with vcal at most N events of vCalendar 1.0 with one rule each and the dates taken out of it, and one of single dates; refused A NotSayable if the parts that are tried one after another do not lead there.\nN is a number from 1 to 64.\nA is LANG:FILE or LANG@OFFSET:FILE, as rrule:event.ics; LANG is rrule, vcal, graph, list, canon or rscale.\n")
     else if bytes_eq name (codes "infer") then Some (codes "rr infer A\n\nIt prints the first single rule that has the occurrences.\nA is LANG:FILE or LANG@OFFSET:FILE, as rrule:event.ics; LANG is rrule, vcal, graph or list.\n")
     else if bytes_eq name (codes "drill") then Some (codes "rr drill SEED N\n\nIt prints a large input in two words: how many verdicts between N series drawn from a number are yes.\nSEED is a number from 0 to 4,294,967,295.\nN is a number from 1 to 100.\n")
     else if bytes_eq name (codes "help") then Some (codes "rr help [COMMAND]\nrr explain REFUSAL\nrr version\n\nIt prints a page of help, or what a command prints and takes; what a refusal means and what to do, as explain UtcMoment; the release. --help and --version are the same.\n")
@@ -68,7 +68,7 @@ explanation_of name =
     else if bytes_eq name (codes "CycleTooLong") then Some (codes "CycleTooLong\n\nIt comes if the series repeats after more than 16,777,216 days (some 45,900 years); of both: the two repeat together only after more, and the command is neither equal nor differences.\nLanguages: all but canon; of both: all.\nWhat to do: of both: ask equal. Otherwise add an UNTIL of your own and ask again; list does not help, since it asks for the cycle too.\n")
     else if bytes_eq name (codes "CountedTooFar") then Some (codes "CountedTooFar\n\nIt comes if the last occurrence of a rule with COUNT, an excluded one too, lies more than 16,777,216 days after the start, or the rule has fewer occurrences.\nLanguages: all but canon.\nWhat to do: is the COUNT right? For a rule without end leave it out.\n")
     else if bytes_eq name (codes "TooManyMoments") then Some (codes "TooManyMoments\n\nIt comes if the different sets of seconds that its days have hold more than 16,777,216 seconds in all; of both: those of what union, common or minus would print.\nLanguages: all but canon and rscale; of both: all.\nWhat to do: compare one rule at a time.\n")
-    else if bytes_eq name (codes "NotSayable") then Some (codes "NotSayable\n\nIt comes if no single rule or pattern that is looked for has these occurrences, or on split the parts that are tried do not lead there; it is no fault of the series.\nLanguages: all.\nWhat to do: for Microsoft Graph ask for several series, as rr split 12 graph rrule:FILE; if it has none, cut the series at a last date by rr common, and split that. For vCalendar 1.0 translate the rule without its single dates, and carry these over beside it.\n")
+    else if bytes_eq name (codes "NotSayable") then Some (codes "NotSayable\n\nIt comes if no single rule or pattern that is looked for has these occurrences, or on split the parts that are tried do not lead there; it is no fault of the series.\nLanguages: all.\nWhat to do: ask for several parts: for Microsoft Graph several series, as rr split 12 graph rrule:FILE, and for vCalendar 1.0 several events, as rr split 12 vcal rrule:FILE; if there are none, cut the series at a last date by rr common, and split that.\n")
     else if bytes_eq name (codes "TooManyParts") then Some (codes "TooManyParts\n\nIt comes if there are more than 16 rules, RRULE and EXRULE together, or more than 10,000 dates; in rscale there is a second rule.\nLanguages: rrule, rscale, vcal, list.\nWhat to do: divide the series, and compare part by part.\n")
     else if bytes_eq name (codes "NotCanonical") then Some (codes "NotCanonical\n\nIt comes if the bytes, without a byte order mark at the front, are not what canon or canon1 prints for any set within the bounds that the manual states.\nLanguages: canon.\nWhat to do: copy the whole text, with the line feed at its end and no carriage returns; or print it anew.\n")
     else if bytes_eq name (codes "MixedSets") then Some (codes "MixedSets\n\nIt comes if the union of dates and moments is asked for, and neither set is empty; always of both.\nLanguages: all.\nWhat to do: write both as dates, or both as moments.\n")

@@ -19,7 +19,7 @@ pub const HELP: &[u8] =
   rr canon A             the canonical text: equal bytes exactly for equal occurrences; canon1 A writes its first version
   rr union A B           the canonical text of what either has; common A B: of what both have; minus A B: of what A alone has
   rr translate LANG A    the same occurrences in another language: rrule, vcal or graph
-  rr split N graph A     a plan for Microsoft Graph: at most N series, instances of them to cancel, and single events
+  rr split N graph A     a plan for Microsoft Graph: at most N series, instances of them to cancel, and single events; vcal: events of vCalendar 1.0
   rr infer A             the first single rule that has the occurrences
   rr drill SEED N        how many verdicts between N drawn series are yes
   rr help [COMMAND]      this page, or what COMMAND prints; explain REFUSAL: what a refusal means, and what to do; version: the release
@@ -45,7 +45,7 @@ read, 5 if the output could not be written, 6 out of memory, 7 if a word is no t
 docs/MANUAL.md, and share/doc/rr/MANUAL.md in the folder of an installation.
 ";
 
-pub const VERSION: &[u8] = b"rr 0.15.0
+pub const VERSION: &[u8] = b"rr 0.16.0
 ";
 
 pub const HELP_EQUAL: &[u8] = b"rr equal A B
@@ -142,8 +142,9 @@ A is LANG:FILE or LANG@OFFSET:FILE, as rrule:event.ics; LANG is rrule, vcal, gra
 ";
 
 pub const HELP_SPLIT: &[u8] = b"rr split N graph A
+rr split N vcal A
 
-It prints a plan for Microsoft Graph: at most N series, the instances of them to cancel and single events, which together have exactly the occurrences, each once; refused A NotSayable if the parts that are tried one after another do not lead there.
+It prints a plan for Microsoft Graph: at most N series, the instances of them to cancel and single events, which together have exactly the occurrences, each once; with vcal at most N events of vCalendar 1.0 with one rule each and the dates taken out of it, and one of single dates; refused A NotSayable if the parts that are tried one after another do not lead there.
 N is a number from 1 to 64.
 A is LANG:FILE or LANG@OFFSET:FILE, as rrule:event.ics; LANG is rrule, vcal, graph, list, canon or rscale.
 ";
@@ -367,7 +368,7 @@ pub const EXPLAIN_NOT_SAYABLE: &[u8] = b"NotSayable
 
 It comes if no single rule or pattern that is looked for has these occurrences, or on split the parts that are tried do not lead there; it is no fault of the series.
 Languages: all.
-What to do: for Microsoft Graph ask for several series, as rr split 12 graph rrule:FILE; if it has none, cut the series at a last date by rr common, and split that. For vCalendar 1.0 translate the rule without its single dates, and carry these over beside it.
+What to do: ask for several parts: for Microsoft Graph several series, as rr split 12 graph rrule:FILE, and for vCalendar 1.0 several events, as rr split 12 vcal rrule:FILE; if there are none, cut the series at a last date by rr common, and split that.
 ";
 
 pub const EXPLAIN_TOO_MANY_PARTS: &[u8] = b"TooManyParts
@@ -405,6 +406,7 @@ Languages: list.
 What to do: sort -u FILE.
 ";
 
+/// What a command prints and takes, as `help COMMAND` says it; None exactly if there is no command of this name.
 pub fn help_of(name: &str) -> Option<&'static [u8]>
     ensures { option_map (λ t. t.now) result ≡ help_of name.now }
 {
@@ -436,6 +438,7 @@ pub fn help_of(name: &str) -> Option<&'static [u8]>
     }
 }
 
+/// What a refusal means and what to do, as `explain NAME` says it; None exactly if there is no refusal of this name.
 pub fn explanation_of(name: &str) -> Option<&'static [u8]>
     ensures { option_map (λ t. t.now) result ≡ explanation_of name.now }
 {

@@ -3,12 +3,13 @@ ghost use Rattle.std.specs.Prelude.{◌≤◌, IfOk};
 ghost use Rattle.rr_model.specs.Sets.Sketch.{StandsIn};
 ghost use Rattle.rr_days.specs.Sequence.{sketch};
 ghost use Rattle.rr_split.specs.Promise.{IsUnplanned};
+ghost use Rattle.rr_split.specs.Vcal.{HasNoVcalPlan};
 ghost use Rattle.rr_answer.specs.Folding.{IsFromYearOneOn};
 ghost use Rattle.rr_answer.specs.Outcome.{answer_of};
 ghost use Rattle.rr_answer.specs.Said.{IsDoneOrNotSayable};
-ghost use Rattle.rr_answer.specs.Splitting.{IsPlanText};
+ghost use Rattle.rr_answer.specs.Splitting.{IsPlanText, IsVcalPlanText};
 ghost use Rattle.rr_answer.specs.Tasks.{AnswersTask};
-ghost use Rattle.rr_answer.specs.declared.command.Task.TheVariants.{Split};
+ghost use Rattle.rr_answer.specs.declared.command.Task.TheVariants.{Split, SplitVcal};
 
 use crate::command::{MAX_SPLIT, Operand};
 use crate::conclusion::Conclusion;
@@ -16,8 +17,8 @@ use crate::folding::read_folded;
 use crate::outcome::{Outcome, outcome_of_fault, outcome_of_refusal};
 use rr_days::Folded;
 use rr_model::{NoMemory, Refusal, Side};
-use rr_plan_text::write_plan;
-use rr_split::search;
+use rr_plan_text::{write_plan, write_vcal_plan};
+use rr_split::{search, search_vcal};
 use std::alloc::Global;
 
 // The text of a plan of days, or that none is found.
@@ -54,5 +55,41 @@ pub fn split_outcome(
     match read_folded(alloc, operand, bytes) {
         Err(fault) => outcome_of_fault(alloc, Side::A, fault),
         Ok(days) => outcome_of_days(alloc, days, most),
+    }
+}
+
+// The text of a plan of days in events of vCalendar 1.0, or that none is found.
+fn vcal_outcome_of_days(alloc: Global, days: Folded, most: u64) -> Result<Outcome, NoMemory>
+    requires some { 1 ≤ most }
+    ensures { IfOk result (λ x. IsDoneOrNotSayable
+        (IsVcalPlanText most (StandsIn (sketch days)) (sketch days)) (HasNoVcalPlan (sketch days))
+        (answer_of x)) }
+{
+    let Some(plan) = search_vcal(alloc, days, most as usize)? else {
+        return outcome_of_refusal(alloc, Side::A, Refusal::NotSayable);
+    };
+    Ok(Outcome {
+        conclusion: Conclusion::Yes,
+        text: write_vcal_plan(alloc, plan.events.as_slice(), plan.kind, &plan.single)?,
+    })
+}
+
+/// What is said of an operand's bytes: why its text or its series is refused, or a plan of at most `most` events of vCalendar 1.0 with
+/// one rule each, and of one event of single dates, that have its occurrences together, each once. `most` is 1 to `MAX_SPLIT`.
+///
+/// `NotSayable` comes last, if no plan is found.
+pub fn split_vcal_outcome(
+    alloc: Global,
+    operand: Operand,
+    bytes: &[u8],
+    most: u64,
+) -> Result<Outcome, NoMemory>
+    requires some { 1 ≤ most }
+    requires few { most ≤ MAX_SPLIT }
+    ensures { IfOk result (AnswersTask (SplitVcal most) operand.entry bytes.now) }
+{
+    match read_folded(alloc, operand, bytes) {
+        Err(fault) => outcome_of_fault(alloc, Side::A, fault),
+        Ok(days) => vcal_outcome_of_days(alloc, days, most),
     }
 }
