@@ -1,5 +1,5 @@
 -- What a fetch and a put do to a source and a sink.
-use Rattle.std.specs.Prelude.{◌≡◌, ◌⊎◌, ℕ, ◌+◌, ◌<◌, ◌≤◌, min, List, [], ◌∷◌, ◌++◌, take, Option, option_map, Result, Ok, Err, Vec, IfOk, IfSome}
+use Rattle.std.specs.Prelude.{◌≡◌, ◌⊎◌, ℕ, ◌+◌, ◌<◌, min, List, [], ◌∷◌, ◌++◌, take, Option, option_map, Result, Ok, Err, Vec, IfOk, IfSome}
 use Rattle.std.specs.declared.alloc.Global.{Global}
 use Rattle.rr_io.specs.declared.source.FetchError.{FetchError}
 use Rattle.rr_io.specs.declared.source.FetchError.TheVariants as fetch

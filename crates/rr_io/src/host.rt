@@ -1,7 +1,8 @@
 // Files, standard input and standard output.
-ghost use Rattle.std.specs.Prelude.{◌≡◌, ◌<◌, ◌≤◌, ◌^◌, ◌-◌, [], length, option_map, slice_get};
+ghost use Rattle.std.specs.Prelude.{◌≡◌, ◌<◌, ◌≤◌, ◌^◌, ◌-◌, [], None, IsSome, OnErr, OnOk, length, option_map, slice_get};
 ghost use Rattle.rr_io.specs.Outside.{IsFrontIfTold, failed_after, faults_after};
 
+use crate::write_fault::{WriteFault, fault_of};
 use crate::{FetchError, PutError, Sink, Source};
 use rr_model::MAX_INPUT;
 use std::alloc::Global;
@@ -36,17 +37,19 @@ const FRONT: usize = 64;
 pub struct HostSink<R: Print + Drop> {
     rt: R,
     faults: u64,
+    // Why a put failed, the last time that one did.
+    why: Option<WriteFault>,
     // The first bytes of the last put, `kept` of them.
     front: [u8; FRONT],
     kept: usize,
 }
 
 impl<R: Print + Drop> Model for HostSink<R> {
-    ghost use Rattle.std.specs.Prelude.{ℕ};
+    ghost use Rattle.rr_io.specs.Host.{Faults};
 
-    ghost Value = { ℕ };
+    ghost Value = { Faults };
 
-    ghost view = { λ s. s.faults };
+    ghost view = { λ s. record { faults = s.faults; why = s.why } };
 }
 
 // What a reader gives, up to `limit + 1` bytes. A read that a signal interrupts is tried again.
@@ -133,11 +136,12 @@ impl<R: Files + Input + Drop> Source for HostSource<R> {
 impl<R: Print + Drop> HostSink<R> {
     /// No put has failed. The runtime reaches standard output.
     pub fn new(rt: R) -> Self
-        ensures { result ≡ 0 }
+        ensures { result ≡ record { faults = 0; why = None } }
     {
         HostSink {
             rt,
             faults: 0,
+            why: None,
             front: [0; FRONT],
             kept: 0,
         }
@@ -148,7 +152,14 @@ impl<R: Print + Drop> HostSink<R> {
         &self.front[..self.kept.min(FRONT)]
     }
 
-    // Keeps the first bytes of a put. The count stays.
+    /// Why a put failed, the last time that one did.
+    pub fn failure(&self) -> Option<WriteFault>
+        ensures { result ≡ self.now.why }
+    {
+        self.why
+    }
+
+    // Keeps the first bytes of a put. The faults stay.
     fn keep_front(&mut self, bytes: &[u8])
         ensures { self.new ≡ self.old }
     {
@@ -163,18 +174,23 @@ impl<R: Print + Drop> Sink for HostSink<R> {
 
     ghost written = { λ _. None };
 
-    ghost faults = { λ faults. faults };
+    ghost faults = { λ s. s.faults };
 
     fn put(&mut self, bytes: &[u8]) -> Result<(), PutError>
-        ensures counts { self.new ≡ faults_after result self.old }
-        ensures never_falls { self.old ≤ self.new }
+        ensures counts { self.new.faults ≡ faults_after result self.old.faults }
+        ensures never_falls { self.old.faults ≤ self.new.faults }
+        ensures ok { OnOk result (self.new ≡ self.old) }
+        ensures err { OnErr result (IsSome self.new.why) }
     {
         self.keep_front(bytes);
         // Goes on after a short write. A write that takes nothing of some bytes is an error.
-        if io::writer(&self.rt).write_all(bytes).is_ok() {
-            return Ok(());
+        match io::writer(&self.rt).write_all(bytes) {
+            Ok(()) => Ok(()),
+            Err(error) => {
+                self.faults = self.faults.saturating_add(1);
+                self.why = Some(fault_of(error.kind()));
+                Err(PutError::Failed)
+            }
         }
-        self.faults = self.faults.saturating_add(1);
-        Err(PutError::Failed)
     }
 }
