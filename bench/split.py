@@ -1,9 +1,10 @@
 #!/usr/bin/env python3
 """bench/split.py PROGRAM [FOLDER..]
 
-Plans each rule of the worked cases, and of the calendar files below the folders, by `split 12 graph`, and checks each plan with the same
-program: what its parts have without their cancelled occurrences, and its single ones, are apart and have the canonical text of the rule.
-It prints how many rules have a plan, how many have one pattern already, and each plan that is wrong; the status is 0 if none is.
+Plans each rule of the worked cases, and of the calendar files below the folders, by `split 12 graph` and `split 12 vcal`, and checks each
+plan with the same program: what its parts have without their cancelled occurrences, and its single ones, are apart and have the canonical
+text of the rule; and each rule of vCalendar 1.0 is the one that `translate vcal` has for its event without dates taken out. It prints how
+many rules have a plan, how many have one pattern or rule already, and each plan that is wrong; the status is 0 if none is.
 """
 import json
 import re
@@ -76,11 +77,34 @@ def kept_by(program, part):
     return kept if status == 0 else None
 
 
-def made_by(program, plan):
-    """The canonical text of what a plan makes, or why there is none."""
+def graph_pieces(program, out):
+    """The canonical text of what each part of a plan keeps, and of its single events; None in place of one that is wrong."""
+    plan = json.loads(out)
     pieces = [kept_by(program, part) for part in plan["parts"]]
     if plan["single"]:
         pieces.append(program.canon("list", "".join(line + "\n" for line in plan["single"]).encode()))
+    return pieces
+
+
+def event_piece(program, event):
+    """The canonical text of an event of vCalendar 1.0, or None if its rule is not the one that `translate vcal` has for it."""
+    lines = event.splitlines(True)
+    rule = b"".join(line for line in lines if not line.startswith(b"EXDATE"))
+    if b"RRULE" in event:
+        status, out = program.run("translate", "vcal", "vcal:{0}", texts=[rule])
+        if status != 0 or rule != b"BEGIN:VEVENT\r\n" + out + b"END:VEVENT\r\n":
+            return None
+    return program.canon("vcal", event)
+
+
+def vcal_pieces(program, out):
+    """The canonical text of each event of a plan."""
+    events = re.findall(rb"BEGIN:VEVENT\r\n.*?END:VEVENT\r\n", out, re.S)
+    return [event_piece(program, event) for event in events] if b"".join(events) == out else [None]
+
+
+def made_by(program, pieces):
+    """The canonical text of what pieces make together, or why there is none."""
     made = None
     for piece in pieces:
         if piece is None:
@@ -95,13 +119,14 @@ def made_by(program, plan):
     return made
 
 
-def has_late_years(plan):
-    """Whether a cancelled or a single occurrence lies past the year 9999, so that no list states it."""
+def has_late_years(out):
+    """Whether a cancelled or a single occurrence of a plan of Microsoft Graph lies past the year 9999, so that no list states it."""
+    plan = json.loads(out)
     moments = plan["single"] + [moment for part in plan["parts"] for moment in part["cancelled"]]
     return any(moment.index("-") > 4 for moment in moments)
 
 
-def outcome(program, text):
+def outcome(program, text, target, pieces_of):
     """What becomes of a rule: a word for the count, and what is wrong."""
     bytes_ = text.encode(errors="surrogateescape")
     for language in LANGUAGES:
@@ -110,18 +135,18 @@ def outcome(program, text):
             break
     else:
         return "refused", None
-    status, out = program.run("split", PARTS, "graph", language + ":{0}", texts=[bytes_])
+    status, out = program.run("split", PARTS, target, language + ":{0}", texts=[bytes_])
     if status != 0:
         return "no plan", None if out == b"refused A NotSayable\n" else f"the answer {out!r} with status {status}"
-    plan = json.loads(out)
-    if not plan["parts"] and not plan["single"]:
-        return "empty", None if days.splitlines()[1:] == [b"none"] else "an empty plan of occurrences"
-    if has_late_years(plan):
+    if target == "graph" and has_late_years(out):
         return "plan past the year 9999, not checked", None
-    made = made_by(program, plan)
-    one = program.run("translate", "graph", language + ":{0}", texts=[bytes_])[0] == 0
+    pieces = pieces_of(program, out)
+    if not pieces:
+        return "empty", None if days.splitlines()[1:] == [b"none"] else "an empty plan of occurrences"
+    made = made_by(program, pieces)
+    one = program.run("translate", target, language + ":{0}", texts=[bytes_])[0] == 0
     wrong = None if made == days else made if isinstance(made, str) else "another canonical text"
-    return "one pattern" if one else "plan", wrong
+    return "one pattern or rule" if one else "plan", wrong
 
 
 def main():
@@ -129,13 +154,14 @@ def main():
     with tempfile.TemporaryDirectory() as folder:
         program = Program(sys.argv[1], folder)
         for text in all_rules(sys.argv[2:]):
-            word, why = outcome(program, text)
-            counts[word] = counts.get(word, 0) + 1
-            if why:
-                wrong += 1
-                print(f"wrong: {why}: {text!r}")
-    for word, count in sorted(counts.items()):
-        print(f"{count:6} {word}")
+            for target, pieces_of in (("graph", graph_pieces), ("vcal", vcal_pieces)):
+                word, why = outcome(program, text, target, pieces_of)
+                counts[target, word] = counts.get((target, word), 0) + 1
+                if why:
+                    wrong += 1
+                    print(f"wrong: {target}: {why}: {text!r}")
+    for (target, word), count in sorted(counts.items()):
+        print(f"{count:6} {target} {word}")
     print(f"{wrong:6} wrong")
     return 1 if wrong else 0
 
