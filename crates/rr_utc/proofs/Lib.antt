@@ -1,7 +1,9 @@
+pub mod BeginLemmas
 pub mod DayLemmas
 pub mod Examples
 pub mod LastLemmas
 pub mod MergeLemmas
+pub mod SeenLemmas
 pub mod WalkLemmas
 pub mod ZoneLemmas
 pub mod CycleLemmas

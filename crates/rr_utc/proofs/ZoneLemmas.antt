@@ -1,17 +1,13 @@
 -- Two series whose zones are apart by a constant.
-use Rattle.std.proofs.Common.{w32, w64, to_z, of_z, FitsSigned, ◌≡◌, ◌↔◌, inl, inr, ℕ, List, [], Contains, ℤ, pos, neg_ℤ, ◌+ℤ◌, ◌-ℤ◌, ◌*ℤ◌, ◌≤ℤ◌, ◌<ℤ◌, refl, sym, subst, ◌∙◌, arith}
+use Rattle.std.proofs.Common.{w32, w64, to_z, of_z, FitsSigned, ◌≡◌, inl, inr, ℕ, List, [], Contains, ℤ, pos, neg_ℤ, ◌+ℤ◌, ◌-ℤ◌, ◌*ℤ◌, ◌≤ℤ◌, ◌<ℤ◌, refl, subst, arith}
 use Rattle.std.specs.Prelude.{IsTrue, int_lt}
-use Rattle.std.specs.Int.{int_max}
-use Rattle.std.proofs.lemmas.Int.{by_lt_z, clamps, ints, to_z-of_z}
-use Rattle.rr_model.specs.Moment.{Before, Occurrences, day_part, second_part}
+use Rattle.std.proofs.lemmas.Int.{by_lt_z, ints, to_z-of_z}
+use Rattle.rr_model.specs.Moment.{Occurrences, day_part, second_part}
 use Rattle.rr_model.specs.Sets.Sketch.{IsNearDay, StandsIn, times_on}
-use Rattle.rr_model.specs.Sets.Verdict.{HaveEqualOccurrences, HoldsOnlyOf, IsEqualVerdict}
+use Rattle.rr_model.specs.Sets.Verdict.{HaveEqualOccurrences}
 use Rattle.rr_model.specs.declared.kind.Kind.{Kind}
-use Rattle.rr_model.specs.declared.kind.Kind.TheVariants.{Days, Moments}
+use Rattle.rr_model.specs.declared.kind.Kind.TheVariants.{Moments}
 use Rattle.rr_model.specs.declared.sketch.Sketch.{Sketch}
-use Rattle.rr_model.specs.declared.verdict.Side.{Side}
-use Rattle.rr_model.specs.declared.verdict.Side.TheVariants.{A, B, Both}
-use Rattle.rr_model.specs.declared.verdict.Verdict.TheVariants.{No}
 use Rattle.rr_model.proofs.DaysAndTimesLemmas.{moment_is, second_part-below}
 use Rattle.rr_model.proofs.RisingSetLemmas.{Contains-none}
 use Rattle.rr_true.specs.Apart.{AreApart}
@@ -19,8 +15,6 @@ use Rattle.rr_true.specs.declared.parted.Apart.{Apart}
 use Rattle.rr_true.specs.Changes.{IsBelowDay}
 use Rattle.rr_true.specs.Moments.{IsOffset, IsTrueMoment}
 use Rattle.rr_true.specs.Occurrences.{HasNoMomentBefore, TrueOf}
-use Rattle.rr_true.proofs.MomentLemmas.{true_is_near}
-use Rattle.rr_utc.specs.Between.{AgreeBefore}
 use Rattle.rr_utc.specs.Walks.{HasNoDayBefore}
 use Rattle.rr_utc.specs.Zones.{AreApartFor}
 
@@ -153,7 +147,7 @@ stored_apart o p by fits bo bp e =
     let second : to_z w32 (of_z w32 p) ≡ p = omega (arith, ints, low-2, high-2) in
     omega (arith, ints, first, second, e, b)
 
--- ---- where the local times first differ
+-- ---- where a series begins
 
 -- a series begins a day after a moment where its first day comes so late
 pub begins_late : (s : Sketch) (moment day : ℤ) → s.kind ≡ Moments → HasNoDayBefore s day → (moment +ℤ pos 86_400) ≤ℤ (day *ℤ pos 86_400)
@@ -173,12 +167,6 @@ day_after moment day first e l =
     let below = second_part-below Moments moment in
     omega (arith, ints, is, below, e, l)
 
--- the midnight of a moment's day does not come after it
-pub day_before : (moment day : ℤ) → day +ℤ pos 1 ≡ day_part Moments moment → ((day +ℤ pos 1) *ℤ pos 86_400) ≤ℤ moment
-day_before moment day e =
-    let is : moment ≡ (day_part Moments moment *ℤ pos 86_400) +ℤ pos (second_part Moments moment) = moment_is Moments moment in
-    omega (arith, ints, is, e)
-
 -- the same where it is seen by stored numbers
 pub day_after_stored : (moment day first : ℤ) → FitsSigned w64 day → FitsSigned w64 first → IsNearDay first → day ≡ day_part Moments moment
     → IsTrue (int_lt (to_z w64 (of_z w64 day)) (to_z w64 (of_z w64 (to_z w64 (of_z w64 first) -ℤ pos 1))))
@@ -195,16 +183,6 @@ day_after_stored moment day first fits_day fits near e test =
     below : (x y : ℤ) → IsTrue (int_lt x y) → x <ℤ y
     below x y h = grind (arith, ints)
 
--- the day before a moment's day, as it is stored
-pub stored_before : (at day : ℤ) → FitsSigned w64 at → FitsSigned w64 day → day ≡ day_part Moments at
-    → to_z w64 (of_z w64 (to_z w64 (of_z w64 day) -ℤ pos 1)) ≡ day -ℤ pos 1
-stored_before at day fits fits_day e =
-    let is : at ≡ (day_part Moments at *ℤ pos 86_400) +ℤ pos (second_part Moments at) = moment_is Moments at in
-    let small = second_part-below Moments at in
-    let d = to_z-of_z w64 day fits_day in
-    let a = to_z-of_z w64 at fits in
-    omega (arith, ints, is, small, e, d, a, fits, fits_day)
-
 -- what is known of the zones from a moment on, with what is known of both series, as the numbers are stored
 pub apart_is : (f g : ℤ → ℤ) (P Q : Occurrences) (apart : Apart) (from by : ℤ) → from ≡ apart.from → by ≡ apart.by → AreApart f g apart
     → HasNoMomentBefore P (from +ℤ pos 86_400) → HasNoMomentBefore Q (from +ℤ pos 86_400) → AreApartFor f g P Q by
@@ -214,35 +192,3 @@ apart_is f g P Q apart from by ef eb known first second = record {
   first = first;
   second = second;
 }
-
-no_days : Moments ≡ Days → ⊥
-no_days e = subst (λ k. elim k as (λ k. Type 0) [ Days ↦ ⊥ | Moments ↦ Unit {0} ]) e tt
-
--- before the day of the first local time that one series alone has the moments are the same, a day earlier
-pub agree_before_local : (s u : Sketch) → s.kind ≡ Moments → u.kind ≡ Moments → (f g : ℤ → ℤ) → IsOffset f → IsOffset g
-    → AreApartFor f g (StandsIn s) (StandsIn u) (pos 0) → (k : Kind) (t : ℤ) (side : Side) → IsEqualVerdict (StandsIn s) (StandsIn u) (No k t side)
-    → (day : ℤ) → ((day +ℤ pos 1) *ℤ pos 86_400) ≤ℤ t → AgreeBefore (TrueOf f (StandsIn s)) (TrueOf g (StandsIn u)) (day *ℤ pos 86_400)
-agree_before_local s u ks ku f g hf hg h k t side (alone, sooner) day l v m =
-    let kind : k ≡ Moments = kind_of side alone in
-    let same : (w : ℤ) → w <ℤ t → StandsIn s Moments w ↔ StandsIn u Moments w =
-    λ w n. sooner Moments w (subst (λ z. Before Moments w z t) (sym kind) (inl n)) in (
-      λ r.
-          let near = (true_is_near f r.local v hf r.moment).0 in
-          one_zone f g (StandsIn s) (StandsIn u) hf hg h v r ((same r.local (omega (arith, ints, near, l, m))).0 r.stands),
-      λ r.
-          let near = (true_is_near g r.local v hg r.moment).0 in
-          one_zone g f (StandsIn u) (StandsIn s) hg hf (turned f g (StandsIn s) (StandsIn u) (pos 0) h) v r
-          ((same r.local (omega (arith, ints, near, l, m))).1 r.stands),
-    )
-  where
-    kind_of : (side : Side) → HoldsOnlyOf side (StandsIn s k t) (StandsIn u k t) → k ≡ Moments
-    kind_of A (has, lacks) = has.kind ∙ ks
-    kind_of B (has, lacks) = has.kind ∙ ku
-    kind_of Both none = absurd none
-
--- what agrees before two days agrees before the later one
-pub agree_before_later : (P Q : Occurrences) (x y : ℤ) → AgreeBefore P Q (x *ℤ pos 86_400) → AgreeBefore P Q (y *ℤ pos 86_400)
-    → AgreeBefore P Q (int_max x y *ℤ pos 86_400)
-agree_before_later P Q x y first second t l =
-    by_lt_z {P = P Moments t ↔ Q Moments t} t (x *ℤ pos 86_400) (λ m. first t m)
-    (λ m. by_lt_z {P = P Moments t ↔ Q Moments t} t (y *ℤ pos 86_400) (λ n. second t n) (λ n. absurd (omega (arith, ints, clamps, l, m, n))))

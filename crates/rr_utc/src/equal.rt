@@ -8,10 +8,11 @@ ghost use Rattle.rr_true.specs.Changes.{offset_of};
 ghost use Rattle.rr_true.specs.Occurrences.{TrueOf};
 ghost use Rattle.rr_utc.specs.Walks.{IsLongWalk, NamesNear, verdict_of};
 
+use crate::begin::begin_of_walk;
 use crate::end::end_of_walk;
 use crate::only::Only;
 use crate::walk::first_difference;
-use crate::zones::{apart_for, are_equal_apart, begin_of_walk};
+use crate::zones::{apart_for, are_equal_apart};
 use rr_model::{Kind, NoMemory, Verdict};
 use rr_true::{Apart, Offsets};
 use rr_word::DaySeq;
@@ -63,7 +64,7 @@ pub fn equal_moments<A: DaySeq, B: DaySeq>(
     let Some(end) = end_of_walk(a, zone_a, b, zone_b) else {
         return Ok(None);
     };
-    let from = begin_of_walk(a, zone_a, b, zone_b, by, local);
+    let from = begin_of_walk(a, zone_a, b, zone_b, local, end);
     let shown = first_difference(alloc, a, zone_a, b, zone_b, from, end)?;
     Ok(Some(verdict_of(shown)))
 }

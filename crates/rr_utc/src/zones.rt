@@ -1,6 +1,5 @@
 // Two series whose zones are apart by a constant wherever they have a local time.
-ghost use Rattle.std.specs.Prelude.{◌≡◌, IfOk, IfSome, IsTrue, Some, pos, ◌+ℤ◌, ◌*ℤ◌, ◌≤ℤ◌};
-ghost use Rattle.rr_model.specs.Bounds.{earliest_near};
+ghost use Rattle.std.specs.Prelude.{◌≡◌, IfOk, IfSome, IsTrue, Some, pos, ◌+ℤ◌};
 ghost use Rattle.rr_model.specs.Sets.Sketch.{StandsIn};
 ghost use Rattle.rr_model.specs.Sets.Verdict.{HaveEqualOccurrences, IsEqualVerdict};
 ghost use Rattle.rr_model.specs.declared.kind.Kind.TheVariants.{Moments};
@@ -8,7 +7,6 @@ ghost use Rattle.rr_model.specs.declared.verdict.Verdict.TheVariants.{Yes};
 ghost use Rattle.rr_true.specs.Apart.{AreApart};
 ghost use Rattle.rr_true.specs.Changes.{IsBelowDay, offset_of};
 ghost use Rattle.rr_true.specs.Occurrences.{HasNoMomentBefore, TrueOf};
-ghost use Rattle.rr_utc.specs.Between.{AgreeBefore};
 ghost use Rattle.rr_utc.specs.Zones.{AreApartFor};
 
 use crate::begin::{first_day, first_of_both};
@@ -150,36 +148,5 @@ pub fn are_equal_apart<A: DaySeq, B: DaySeq>(
     match by {
         Some(by) if by != 0 => are_equal_shifted(alloc, a, zone_a, b, zone_b, by),
         _ => Ok(false),
-    }
-}
-
-/// A day of UTC before which two series have equal moments: the day before the first local day; in one zone the day before that of
-/// the first local time that one of them alone has, if that is later.
-pub fn begin_of_walk<A: DaySeq, B: DaySeq>(
-    a: &A,
-    zone_a: &Offsets,
-    b: &B,
-    zone_b: &Offsets,
-    by: Option<i32>,
-    local: Verdict,
-) -> i64
-    requires kind_a { (A.sketch a.now).kind ≡ Moments }
-    requires kind_b { (B.sketch b.now).kind ≡ Moments }
-    requires apart { IfSome by (AreApartFor (offset_of zone_a.now) (offset_of zone_b.now)
-        (StandsIn (A.sketch a.now)) (StandsIn (B.sketch b.now))) }
-    requires local { IsEqualVerdict
-        (StandsIn (A.sketch a.now)) (StandsIn (B.sketch b.now)) local }
-    ensures before { AgreeBefore (TrueOf (offset_of zone_a.now) (StandsIn (A.sketch a.now)))
-        (TrueOf (offset_of zone_b.now) (StandsIn (B.sketch b.now))) (result *ℤ pos 86_400) }
-    ensures low { earliest_near ≤ℤ (result +ℤ pos 1) }
-{
-    zone_a.is_offset();
-    zone_b.is_offset();
-    let first = first_of_both(a, zone_a, b, zone_b);
-    match (by, local) {
-        (Some(by), Verdict::No { at, .. }) if by == 0 => {
-            first.max(day_part(Kind::Moments, at) - 1)
-        }
-        _ => first,
     }
 }

@@ -12,7 +12,18 @@ use Rattle.rr_utc.proofs.walk.first_difference.Goals.{In-Same}
 use Rattle.rr_utc.proofs.walk.first_difference.Given.{Over}
 
 pub loop-day-init : goal.loop-day-init
-loop-day-init g c = (omega (arith, ints), λ t low high. absurd (omega (arith, ints, low, high)))
+loop-day-init g c = (
+  omega (arith, ints),
+  λ t low high. absurd (omega (arith, ints, low, high)),
+  c.none-calm.ensures (offset_of c.args.zone_a.now) (offset_of c.args.zone_b.now),
+  λ about day seen. absurd (c.new-seen.ensures about seen),
+)
+
+pub calm_about-calm-requires-clause-calm : goal.calm_about-calm-requires-clause-calm
+calm_about-calm-requires-clause-calm g c = c.loop-day.invariant.2
+
+pub look_from-requires-clause-seen : goal.look_from-requires-clause-seen
+look_from-requires-clause-seen g c = c.loop-day.invariant.3
 
 pub look_from-requires-clause-low : goal.look_from-requires-clause-low
 look_from-requires-clause-low g c =
@@ -43,7 +54,7 @@ returns-in-Found g c =
     (omega (arith, ints, from, later)) (omega (arith, ints, end, test))
     (agree_sooner P Q (c.args.from *ℤ pos 86_400) (to_z w64 (of_z w64 c.args.from) *ℤ pos 86_400) (day *ℤ pos 86_400) (day *ℤ pos 86_400) (omega (arith, ints, from))
     (omega (arith, ints)) c.loop-day.invariant.1)
-    (subst (IsLook P Q day (to_z w64 (of_z w64 c.args.end))) c.in-Found.is c.in_ok-only.ensures)
+    (subst (IsLook P Q day (to_z w64 (of_z w64 c.args.end))) c.in-Found.is c.in_ok-only.ensures.look)
 
 -- the later day, as it is stored
 record Later (g : Over) (c : In-Same g) : Type 0 where
@@ -55,7 +66,7 @@ later_of : (g : Over) (c : In-Same g) → Later g c
 later_of g c =
     let P = TrueOf (offset_of c.args.zone_a.now) (StandsIn (g.A.DaySeq.sketch c.args.a.now)) in
     let Q = TrueOf (offset_of c.args.zone_b.now) (StandsIn (g.B.DaySeq.sketch c.args.b.now)) in
-    let look = subst (IsLook P Q (to_z w64 c.loop-day.day-bits) (to_z w64 (of_z w64 c.args.end))) c.in-Same.is c.in_ok-only.ensures in
+    let look = subst (IsLook P Q (to_z w64 c.loop-day.day-bits) (to_z w64 (of_z w64 c.args.end))) c.in-Same.is c.in_ok-only.ensures.look in
     let from = to_z-of_z w64 c.args.from c.ranges.from in
     let end = to_z-of_z w64 c.args.end c.ranges.end in
     let low = c.requires.low in
@@ -77,6 +88,8 @@ loop-day-preserved g c =
       omega (arith, ints, next, after, later),
       subst (λ z. AgreeBetween P Q (from *ℤ pos 86_400) (z *ℤ pos 86_400)) (sym next)
           (joined P Q (from *ℤ pos 86_400) (to_z w64 c.loop-day.day-bits *ℤ pos 86_400) (c.in-Same.next *ℤ pos 86_400) c.loop-day.invariant.1 l.look.2),
+      c.calm_about-calm.ensures,
+      c.in_ok-only.ensures.seen,
     )
 
 pub loop-day-smaller : goal.loop-day-smaller

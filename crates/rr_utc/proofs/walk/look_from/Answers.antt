@@ -7,8 +7,8 @@ use Rattle.rr_utc.specs.Between.{AgreeBetween, IsFirstBetween}
 use Rattle.rr_utc.proofs.LastLemmas.{agree_on_free_days}
 use Rattle.rr_utc.proofs.walk.look_from.Goals as goal
 
-pub returns-then-free-gt2 : goal.returns-then-free-gt2
-returns-then-free-gt2 g c =
+pub returns-then-free-gt2-clause-look : goal.returns-then-free-gt2-clause-look
+returns-then-free-gt2-clause-look g c =
     let day = c.args.day in
     let next = c.day_later.result in
     let fits : FitsSigned w64 next = record { sfits = c.day_later.type_inv } in
@@ -31,16 +31,16 @@ returns-then-free-gt2 g c =
           (omega (arith, ints, n, d, most)),
     )
 
-pub returns-in-Some : goal.returns-in-Some
-returns-in-Some g c =
+pub returns-in-Some-clause-look : goal.returns-in-Some-clause-look
+returns-in-Some-clause-look g c =
     let P = TrueOf (offset_of c.args.zone_a.now) (StandsIn (g.A.DaySeq.sketch c.args.a.now)) in
     let Q = TrueOf (offset_of c.args.zone_b.now) (StandsIn (g.B.DaySeq.sketch c.args.b.now)) in
     let day = to_z w64 (of_z w64 c.args.day) in
     subst (λ z. IsFirstBetween P Q (z *ℤ pos 86_400) ((z +ℤ pos 1) *ℤ pos 86_400) (Some c.in-Some.only)) (to_z-of_z w64 c.args.day c.ranges.day)
-    (subst (IsFirstBetween P Q (day *ℤ pos 86_400) ((day +ℤ pos 1) *ℤ pos 86_400)) c.in-Some.is c.in_ok-only.ensures)
+    (subst (IsFirstBetween P Q (day *ℤ pos 86_400) ((day +ℤ pos 1) *ℤ pos 86_400)) c.in-Some.is c.in_ok-only.ensures.first)
 
-pub returns-in-None : goal.returns-in-None
-returns-in-None g c =
+pub returns-in-None-clause-look : goal.returns-in-None-clause-look
+returns-in-None-clause-look g c =
     let P = TrueOf (offset_of c.args.zone_a.now) (StandsIn (g.A.DaySeq.sketch c.args.a.now)) in
     let Q = TrueOf (offset_of c.args.zone_b.now) (StandsIn (g.B.DaySeq.sketch c.args.b.now)) in
     let day = to_z w64 (of_z w64 c.args.day) in
@@ -53,5 +53,5 @@ returns-in-None g c =
       omega (arith, ints, next, within),
       subst (λ z. AgreeBetween P Q (c.args.day *ℤ pos 86_400) (z *ℤ pos 86_400)) (sym next)
           (subst (λ z. AgreeBetween P Q (z *ℤ pos 86_400) ((z +ℤ pos 1) *ℤ pos 86_400)) d
-          (subst (IsFirstBetween P Q (day *ℤ pos 86_400) ((day +ℤ pos 1) *ℤ pos 86_400)) c.in-None.is c.in_ok-only.ensures)),
+          (subst (IsFirstBetween P Q (day *ℤ pos 86_400) ((day +ℤ pos 1) *ℤ pos 86_400)) c.in-None.is c.in_ok-only.ensures.first)),
     )
