@@ -3,3 +3,4 @@ pub mod MoreLemmas
 pub mod OneLemmas
 pub mod SplitLemmas
 pub mod AgreeLemmas
+pub mod NeededLemmas

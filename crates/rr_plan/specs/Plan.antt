@@ -29,12 +29,13 @@ BeginsOnPattern (repeat.Pattern pattern range) = StartsOnPattern pattern range
 abbrev pub AreWithin : Kind → List ℤ → Type 0
 AreWithin kind moments = All (λ t. IsDayWithin 0 (day_part kind t)) moments
 
--- the event is valid and begins on its pattern, and what is cancelled are occurrences of it within the limit on days
+-- the event is valid and begins on its pattern, and what is cancelled are occurrences of it within the limit on days, but not all
 pub record IsPart (part : Part) : Type 0 where
   pub valid : IsValidGraphEvent part.event
   pub begins : BeginsOnPattern part.event.repeat
   pub cancelled : All (IsGraphOccurrence part.event part.event.kind) part.cancelled
   pub within : AreWithin part.event.kind part.cancelled
+  pub keeps : ((t : ℤ) → IsGraphOccurrence part.event part.event.kind t → Contains part.cancelled t) → ⊥
 
 -- the event, with nothing cancelled
 abbrev pub whole_event : GraphEvent → Part

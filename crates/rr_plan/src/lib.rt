@@ -7,5 +7,5 @@ mod laws;
 mod part;
 
 pub use few::few_moments;
-pub use laws::agreement_is_settled;
+pub use laws::{agreement_is_settled, each_part_is_needed};
 pub use part::Part;

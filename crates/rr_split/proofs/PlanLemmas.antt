@@ -4,7 +4,9 @@ use Rattle.std.specs.Prelude.{None, Some, int_lt}
 use Rattle.std.proofs.lemmas.List.Elements.{All-nil, Contains-get_or}
 use Rattle.rr_family.proofs.FirstLemmas.{one_first_pattern}
 use Rattle.rr_graphfind.specs.Found.{IsFirstRepeat, IsGraphFound}
+use Rattle.rr_graph.proofs.FirstOccurrenceLemmas.{counterpart_starts_first}
 use Rattle.rr_model.specs.Calendar.{IsDayWithin}
+use Rattle.rr_model.specs.Graph.Counterpart.{series_of_graph}
 use Rattle.rr_model.specs.Graph.Occurrences.{IsGraphOccurrence}
 use Rattle.rr_model.specs.Graph.Validity.{IsValidGraphEvent}
 use Rattle.rr_model.specs.Moment.{Occurrences, day_part}
@@ -60,7 +62,8 @@ pub alone_is_plan : (s : Sketch) (most : ℕ) (event : GraphEvent) (plan : Plan)
 alone_is_plan s most event plan some found alone of_kind =
     let has = found_has (StandsIn s) event.kind event.start event.repeat found in
     let begins = found_begins (StandsIn s) event.kind event.start event.repeat found in
-    let whole = split_of_one (StandsIn s) event plan.kind has.0 begins has.1 in
+    let first = counterpart_starts_first event has.0 in
+    let whole = split_of_one (StandsIn s) event plan.kind (series_of_graph event).start has.0 begins first.occurs has.1 in
     let parts = alone.parts in
     let single = alone.single in
     let one : length plan.parts.items ≡ 1 = ap length parts in

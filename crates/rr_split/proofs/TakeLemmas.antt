@@ -96,5 +96,8 @@ taken rest days left part n valid begins of_event beyond of_left =
           let t = get_or part.cancelled i d in
           let occurs = out t (Contains-get_or part.cancelled i d l) in
           subst (λ k. IsDayWithin 0 (day_part k t)) occurs.same_kind (beyond.within i d l));
+      keeps = λ all. (
+          not_all_out rest days left (IsGraphOccurrence part.event) n part.cancelled of_event beyond of_left
+          (λ t occurs. all t (subst (λ k. IsGraphOccurrence part.event k t) occurs.same_kind occurs)));
     })
     (λ k t. ((λ kept. (kept.occurs, kept.not_cancelled)), (λ both. record { occurs = both.0; not_cancelled = both.1 })))

@@ -13,18 +13,19 @@ use rr_model::{GraphEvent, NoMemory};
 use std::alloc::Global;
 
 /// Sets that are worth taking out of a set, one after another: the days of guessed events, of which those that follow one another
-/// are joined as long as one rule has them all. Where no events cover the set, its days from the settled day on, and guessed events
-/// of the others.
+/// are joined as long as one rule has them all. Where no events cover the set, its days from the settled day on, those of each second
+/// as a set, and guessed events of the others; more than `most` sets are of no use.
 pub(crate) fn candidates(
     alloc: Global,
     days: &Folded,
+    most: usize,
     most_days: u64,
 ) -> Result<Vec<Folded>, NoMemory> {
     let mut sets = Vec::new(alloc);
     if puts_guesses(alloc, &mut sets, days, most_days)? {
         return Ok(sets);
     }
-    if let Some(rest) = put_tails(alloc, &mut sets, days, most_days)? {
+    if let Some(rest) = put_tails(alloc, &mut sets, days, most, most_days)? {
         puts_guesses(alloc, &mut sets, &rest, most_days)?;
     }
     Ok(sets)

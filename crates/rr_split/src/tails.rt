@@ -1,7 +1,6 @@
 // The part of a set from the day on from which it repeats.
 use crate::days::days_of;
 use crate::left::{common, without};
-use crate::limits::MAX_PARTS;
 use rr_days::Folded;
 use rr_guess::each_day_from;
 use rr_model::{NoMemory, day_part, moment_at, second_part};
@@ -17,17 +16,21 @@ struct Tail {
 }
 
 /// Puts the days of a set from its settled day on, those of each second as a set of their own. What is left, which has an end; None if
-/// more than `most_days` days were read for it, or the set has more seconds than there may be parts.
+/// more than `most_days` days were read for it, or if fewer than `most` sets do not suffice.
 pub(crate) fn put_tails(
     alloc: Global,
     sets: &mut Vec<Folded>,
     days: &Folded,
+    most: usize,
     most_days: u64,
 ) -> Result<Option<Folded>, NoMemory> {
+    if days.at(days.settled()).len() > most {
+        return Ok(None);
+    }
     let Some(mut rest) = common(alloc, days, days, most_days)? else {
         return Ok(None);
     };
-    for _ in 0..MAX_PARTS {
+    for _ in 0..most {
         let Some(tail) = tail_of(alloc, &rest, most_days)? else {
             return Ok(Some(rest));
         };

@@ -96,7 +96,7 @@ fn plan_by_candidates(
 {
     let kind = days.kind();
     let most_days = MAX_DAYS_COMPARED / MAX_PARTS as u64;
-    let tried = candidates(alloc, &days, most_days)?;
+    let tried = candidates(alloc, &days, most, most_days)?;
     let taken = take_rules(alloc, days, first_sets(tried.as_slice(), most), most_days)?;
     let Some(left) = few_moments(alloc, &taken.rest, taken.room)? else {
         return Ok(None);
