@@ -3,6 +3,8 @@ mod CountLemmas
 mod LawLemmas
 mod LineLemmas
 mod LocalLemmas
+mod MentionLemmas
+mod MomentLemmas
 mod NameLemmas
 mod NearLemmas
 mod OffsetLemmas

@@ -1,16 +1,17 @@
 -- The parts of a text one after another.
 use Rattle.std.proofs.Common.{◌≡◌, ℕ, ◌+◌, ◌<◌, Bool, true, false, ◌||◌, List, ◌++◌, append_assoc, length, drop, get_or, map, refl, sym, ap, ◌∙◌}
-use Rattle.std.proofs.Common.{Option, None, Some, Result, Ok, Err, OnOk}
-use Rattle.std.specs.Prelude.{IfOk, option_and_then}
-use Rattle.std.specs.Option.{is_some}
+use Rattle.std.proofs.Common.{Result, Ok, Err, OnOk}
+use Rattle.std.specs.Prelude.{IfOk}
 use Rattle.std.proofs.lemmas.List.{at_drop_more}
 use Rattle.rr_events.specs.RawLines.{RawLine, bytes_of}
 use Rattle.rr_events.specs.declared.find.Piece.{Piece}
-use Rattle.rr_zone.specs.Events.{turning_zone}
-use Rattle.rr_zone.specs.Local.{has_zone, local_by_zone, local_part, local_parts, zone_at, zone_of_event, zone_of_part}
+use Rattle.rr_zone.specs.Events.{turning_start}
+use Rattle.rr_zone.specs.Local.{has_zone, is_turned, is_turned_part, local_content, local_event, local_part, local_parts}
 use Rattle.rr_zone.specs.Parts.{part_in}
 use Rattle.rr_zone.specs.Zones.{raw_lines_in}
 use Rattle.rr_zone.specs.declared.event.EventFacts.{EventFacts}
+use Rattle.rr_zone.specs.declared.event.Start.{Start}
+use Rattle.rr_zone.specs.declared.part.Content.TheVariants.{Event}
 use Rattle.rr_zone.specs.declared.part.Part.{Part}
 use Rattle.rr_zone.proofs.RewrittenLemmas.{all-bytes}
 
@@ -19,30 +20,15 @@ pub piece_put : (piece : Piece) (old new : List ℕ) → new ≡ old ++ piece.te
 piece_put piece old new h = h ∙ ap (λ (t : List ℕ). old ++ t) (sym (all-bytes piece.first piece.text.now))
 
 module _ (zones : List (List RawLine)) (events : List EventFacts) where
-  -- an event by the name of its zone, or without one
-  pub put_by_name : {A E : Type 0} (r : Result A E) (event : EventFacts) (raws : List RawLine) (old new : List ℕ) (name : List ℕ)
-      → turning_zone events event ≡ Some name → OnOk r (new ≡ old ++ local_by_zone (zone_at zones name) event.is_instance raws)
-      → OnOk r (new ≡ old ++ local_by_zone (zone_of_event zones events event) event.is_instance raws)
-  put_by_name (Ok x) event raws old new name e h =
-      h ∙ ap (λ (n : Option (List ℕ)). old ++ local_by_zone (option_and_then (zone_at zones) n) event.is_instance raws) (sym e)
-  put_by_name (Err x) event raws old new name e h = tt
+  -- an event by the start in whose zone it is written
+  pub put_by_start : {A E : Type 0} (r : Result A E) (event : EventFacts) (raws : List RawLine) (old new : List ℕ) (start : Start)
+      → start ≡ turning_start events event → OnOk r (new ≡ old ++ local_event zones start event.is_instance raws)
+      → OnOk r (new ≡ old ++ local_content zones events (Event event) raws)
+  put_by_start r event raws old new start e h = rw e at h
 
-  pub told_by_name : {E : Type 0} (r : Result Bool E) (event : EventFacts) (name : List ℕ) → turning_zone events event ≡ Some name
-      → IfOk r (λ turned. turned ≡ is_some (zone_at zones name)) → IfOk r (λ turned. turned ≡ is_some (zone_of_event zones events event))
-  told_by_name (Ok x) event name e h = h ∙ ap (λ (n : Option (List ℕ)). is_some (option_and_then (zone_at zones) n)) (sym e)
-  told_by_name (Err x) event name e h = tt
-
-  pub put_by_none : {A E : Type 0} (r : Result A E) (event : EventFacts) (raws : List RawLine) (old new : List ℕ)
-      → turning_zone events event ≡ None → OnOk r (new ≡ old ++ bytes_of raws)
-      → OnOk r (new ≡ old ++ local_by_zone (zone_of_event zones events event) event.is_instance raws)
-  put_by_none (Ok x) event raws old new e h =
-      h ∙ ap (λ (n : Option (List ℕ)). old ++ local_by_zone (option_and_then (zone_at zones) n) event.is_instance raws) (sym e)
-  put_by_none (Err x) event raws old new e h = tt
-
-  pub told_by_none : {E : Type 0} (r : Result Bool E) (event : EventFacts) → turning_zone events event ≡ None
-      → IfOk r (λ turned. turned ≡ false) → IfOk r (λ turned. turned ≡ is_some (zone_of_event zones events event))
-  told_by_none (Ok x) event e h = h ∙ ap (λ (n : Option (List ℕ)). is_some (option_and_then (zone_at zones) n)) (sym e)
-  told_by_none (Err x) event e h = tt
+  pub told_by_start : {E : Type 0} (r : Result Bool E) (event : EventFacts) (start : Start) → start ≡ turning_start events event
+      → IfOk r (λ turned. turned ≡ is_turned zones start) → IfOk r (λ turned. turned ≡ is_turned_part zones events (Event event))
+  told_by_start r event start e h = rw e at h
 
   -- ---- from a part on
 
@@ -66,10 +52,10 @@ module _ (zones : List (List RawLine)) (events : List EventFacts) where
   or_more false b c = refl
 
   pub part_turned : (parts : List Part) (i : ℕ) (part : Part) (old turned new all : Bool) → i < length parts → part ≡ get_or parts i part
-      → turned ≡ is_some (zone_of_part zones events part.content) → new ≡ (old || turned) → (old || zone_from parts i) ≡ all → (new || zone_from parts (i + 1)) ≡ all
+      → turned ≡ is_turned_part zones events part.content → new ≡ (old || turned) → (old || zone_from parts i) ≡ all → (new || zone_from parts (i + 1)) ≡ all
   part_turned parts i part old turned new all h e is put so_far =
-      let here : zone_from parts i ≡ (is_some (zone_of_part zones events part.content) || zone_from parts (i + 1)) =
+      let here : zone_from parts i ≡ (is_turned_part zones events part.content || zone_from parts (i + 1)) =
       at_drop_more (λ (ps : List Part). has_zone zones events (map part_in ps)) parts i part h
-      ∙ ap (λ (p : Part). is_some (zone_of_part zones events p.content) || zone_from parts (i + 1)) (sym e) in
+      ∙ ap (λ (p : Part). is_turned_part zones events p.content || zone_from parts (i + 1)) (sym e) in
       ap (λ (b : Bool). b || zone_from parts (i + 1)) put ∙ or_more old turned (zone_from parts (i + 1))
       ∙ ap (λ (b : Bool). old || (b || zone_from parts (i + 1))) is ∙ ap (λ (b : Bool). old || b) (sym here) ∙ so_far

@@ -11,7 +11,7 @@ use Rattle.rr_model.specs.declared.rule.Series.{Series}
 use Rattle.rr_model.proofs.YearLemmas.{year_1, year_10000}
 use Rattle.rr_zone.specs.Offsets.{IsBelowDay}
 use Rattle.rr_zone.specs.Onsets.{earliest, later, with_last}
-use Rattle.rr_zone.specs.Tables.{AreTablesOf, IsNear, IsTableOf, last_listed, last_of}
+use Rattle.rr_zone.specs.Tables.{AreTablesOf, IsNear, IsTableOf, IsUpTo, last_listed, last_of}
 use Rattle.rr_zone.specs.declared.clock.Onset.{Onset}
 use Rattle.rr_zone.specs.declared.clock.Table.{Table}
 use Rattle.rr_zone.specs.declared.observance.Observance.{Observance}
@@ -34,36 +34,41 @@ onset-near u from at late below early near =
     let y = year_1 in
     record { low = omega (arith, ints, d.0, late, y, below.high); high = omega (arith, ints, early, near.high) }
 
-abbrev pub HasNear : Option Onset → Type 0
-HasNear found = IfSome found (λ onset. IsNear onset.at)
+abbrev pub HasUpTo : ℤ → Option Onset → Type 0
+HasUpTo at found = IfSome found (IsUpTo at)
 
 module _ (at : ℤ) (near : IsNear at) where
-  listed-near : (end : ℤ) (o : Observance) (x : Table) → IsTableOf end o x → IfSome (last_listed x.onsets at) IsNear
+  -- a moment is near, and not after this one
+  abbrev Is : ℤ → Type 0
+  Is u = IsNear u × (u ≤ℤ at)
+
+  listed-near : (end : ℤ) (o : Observance) (x : Table) → IsTableOf end o x → IfSome (last_listed x.onsets at) Is
   listed-near end o x t = elim (last_is at None x.onsets t.onsets.rises) [
     | inl none ↦ rw none.0 tt
-    | inr some ↦ rw some.1 (onset-near some.0 o.from at ((t.onsets.exact some.0).0 some.2.there).late t.below some.2.early near)
+    | inr some ↦ rw some.1 (onset-near some.0 o.from at ((t.onsets.exact some.0).0 some.2.there).late t.below some.2.early near, some.2.early)
   ]
 
-  chosen-near : (b : Bool) (x y : Onset) → IsNear x.at → IsNear y.at → IsNear (if b then x else y).at
+  chosen-near : (b : Bool) (x y : Onset) → IsUpTo at x → IsUpTo at y → IsUpTo at (if b then x else y)
   chosen-near true x y p q = p
   chosen-near false x y p q = q
 
-  later-near : (a : Option Onset) (b : Onset) → HasNear a → IsNear b.at → IsNear (later a b).at
+  later-near : (a : Option Onset) (b : Onset) → HasUpTo at a → IsUpTo at b → IsUpTo at (later a b)
   later-near None b p q = q
   later-near (Some a) b p q = chosen-near (int_le b.at a.at) a b p q
 
-  with_last-near : (found : Option Onset) (from to : ℤ) (last : Option ℤ) → HasNear found → IfSome last IsNear → HasNear (with_last found from to last)
+  with_last-near : (found : Option Onset) (from to : ℤ) (last : Option ℤ) → HasUpTo at found → IfSome last Is → HasUpTo at (with_last found from to last)
   with_last-near found from to None p q = p
-  with_last-near found from to (Some u) p q = later-near found (record { at = u; from = from; to = to }) p q
+  with_last-near found from to (Some u) p q =
+      later-near found (record { at = u; from = from; to = to }) p (record { near = q.0; early = q.1 })
 
-  -- the last onset in the tables of a zone is near
-  pub last-near : (end : ℤ) (zone : List Observance) (tables : List Table) (found : Option Onset) → AreTablesOf end zone tables → HasNear found
-      → HasNear (last_of found tables at)
-  last-near end [] [] found t p = p
-  last-near end [] (x ∷ xs) found t p = absurd t
-  last-near end (o ∷ os) [] found t p = absurd t
-  last-near end (o ∷ os) (x ∷ xs) found t p =
-      last-near end os xs (with_last found x.from x.to (last_listed x.onsets at)) t.1
+  -- the last onset in the tables of a zone is near, and not after the moment
+  pub last-up_to : (end : ℤ) (zone : List Observance) (tables : List Table) (found : Option Onset) → AreTablesOf end zone tables → HasUpTo at found
+      → HasUpTo at (last_of found tables at)
+  last-up_to end [] [] found t p = p
+  last-up_to end [] (x ∷ xs) found t p = absurd t
+  last-up_to end (o ∷ os) [] found t p = absurd t
+  last-up_to end (o ∷ os) (x ∷ xs) found t p =
+      last-up_to end os xs (with_last found x.from x.to (last_listed x.onsets at)) t.1
       (with_last-near found x.from x.to (last_listed x.onsets at) p (listed-near end o x t.0))
 
 -- ---- the first onset

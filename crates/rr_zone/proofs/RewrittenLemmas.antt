@@ -1,6 +1,6 @@
 -- The lines of an event written again.
-use Rattle.std.proofs.Common.{◌≡◌, ℕ, zero, suc, ◌+◌, ◌-◌, ◌<◌, ◌==◌, ◌&&◌, not, Bool, true, false, ℤ, List, [], ◌∷◌, ◌++◌, length}
-use Rattle.std.proofs.Common.{refl, sym, ap, ◌∙◌, codes, arith, append_assoc, append-nil, Result, Ok, Err, OnOk}
+use Rattle.std.proofs.Common.{◌≡◌, ℕ, zero, suc, ◌+◌, ◌-◌, ◌<◌, ◌==◌, ◌&&◌, not, Bool, true, false, List, [], ◌∷◌, ◌++◌, length}
+use Rattle.std.proofs.Common.{refl, sym, ap, ◌∙◌, codes, arith, append_assoc, append-nil, Option, Result, Ok, Err, OnOk}
 use Rattle.std.specs.List.{onto_first}
 use Rattle.rr_model.specs.Text.Event.{is_in_event}
 use Rattle.rr_model.specs.Text.Lines.{begins_blank, physical_lines}
@@ -13,10 +13,13 @@ use Rattle.rr_events.specs.RawLines.{RawLine, bytes_of, raw_line, raw_lines_at, 
 use Rattle.rr_events.specs.declared.find.Piece.{Piece}
 use Rattle.rr_events.proofs.PartLemmas.{part-before}
 use Rattle.rr_events.proofs.SegmentLemmas.{cut-line, raw-first}
-use Rattle.rr_zone.specs.Lines.{local_line}
 use Rattle.rr_zone.specs.Rewritten.{blank_lines, local_lines, local_raw, local_step, rewritten}
 use Rattle.rr_zone.specs.Zones.{raw_lines_in}
-use Rattle.rr_zone.specs.declared.clock.LocalTime.{LocalTime}
+use Rattle.rr_zone.specs.Clocks.{local_time}
+use Rattle.rr_zone.specs.OtherZones.{event_line}
+use Rattle.rr_zone.specs.declared.observance.Observance.{Observance}
+use Rattle.std.specs.Borrow.{Bor}
+use Rattle.std.specs.Prelude.{option_map}
 
 -- ---- physical lines with a blank alone
 
@@ -72,20 +75,24 @@ first-raw number text line after next cut =
     raw-first number text line after next cut
     ∙ ap (λ (t : List ℕ). raw_line number t ∷ raw_lines_at next after) (sym (front-part number text line after next cut))
 
+-- a line of an event by the zone of this clock and this name
+abbrev pub line : List Observance → List (List RawLine) → Option (Bor (List ℕ)) → Bool → List ℕ → List ℕ
+line zone zones name is_instance text = event_line (local_time zone) zones (option_map (λ (n : Bor (List ℕ)). n.now) name) is_instance text
+
 -- a text that is another is written in its place
 pub own-put : {A E : Type 0} (r : Result A E) (old new text bytes written line : List ℕ) (blanks : ℕ) → written ≡ line
     → OnOk r (new ≡ old ++ rewritten written text bytes blanks) → OnOk r (new ≡ old ++ rewritten line text bytes blanks)
 own-put r old new text bytes written line blanks e h = rw e at h
 
-module _ (local : ℤ → LocalTime) (is_instance : Bool) where
+module _ (f : List ℕ → List ℕ) where
   own-by : (raw : RawLine) (line : Line) (bytes : List ℕ) (blanks : ℕ) → raw.line ≡ line → raw.bytes ≡ bytes → length (physical_lines raw.bytes) - 1 ≡ blanks
-      → local_raw local is_instance true raw ≡ rewritten (local_line local is_instance line.text) line.text bytes blanks
+      → local_raw f true raw ≡ rewritten (f line.text) line.text bytes blanks
   own-by raw line bytes blanks l b n = rw (n, l, b) refl
 
   -- the event's own line
   pub own-raw : (number : ℕ) (text : List ℕ) (line : Line) (after : List ℕ) (next : ℕ) → IsCut number text line after next
-      → local_raw local is_instance true (raw_line number (before text after))
-      ≡ rewritten (local_line local is_instance line.text) line.text (before text after) (next - number - 1)
+      → local_raw f true (raw_line number (before text after))
+      ≡ rewritten (f line.text) line.text (before text after) (next - number - 1)
   own-raw number text line after next cut =
       let lines : length (physical_lines (before text after)) ≡ length (physical_lines cut.one.part) =
       ap (λ (t : List ℕ). length (physical_lines t)) (front-part number text line after next cut) in
@@ -95,8 +102,8 @@ module _ (local : ℤ → LocalTime) (is_instance : Bool) where
   -- it is written
   pub cut-put : {A E : Type 0} (r : Result A E) (number : ℕ) (text : List ℕ) (line : Line) (after : List ℕ) (next : ℕ) → IsCut number text line after next
       → (old new bytes : List ℕ) (blanks : ℕ) → bytes ≡ before text after → blanks ≡ next - number - 1
-      → OnOk r (new ≡ old ++ rewritten (local_line local is_instance line.text) line.text bytes blanks)
-      → OnOk r (new ≡ old ++ local_raw local is_instance true (raw_line number (before text after)))
+      → OnOk r (new ≡ old ++ rewritten (f line.text) line.text bytes blanks)
+      → OnOk r (new ≡ old ++ local_raw f true (raw_line number (before text after)))
   cut-put (Ok x) number text line after next cut old new bytes blanks b n h =
       h ∙ ap (λ (t : List ℕ). old ++ t) (rw (b, n) refl ∙ sym (own-raw number text line after next cut))
   cut-put (Err e) number text line after next cut old new bytes blanks b n h = tt
@@ -105,48 +112,48 @@ module _ (local : ℤ → LocalTime) (is_instance : Bool) where
 
   lines-more : (names after_names : List (List ℕ)) (rest after : Piece) (line : Line) → IsCut rest.first rest.text.now line after.text.now after.first
       → open_after names line ≡ Ok after_names
-      → local_lines local is_instance names (raw_lines_in rest)
-      ≡ local_raw local is_instance (is_in_event names && is_in_event after_names) (raw_line rest.first (before rest.text.now after.text.now))
-      ++ local_lines local is_instance after_names (raw_lines_in after)
+      → local_lines f names (raw_lines_in rest)
+      ≡ local_raw f (is_in_event names && is_in_event after_names) (raw_line rest.first (before rest.text.now after.text.now))
+      ++ local_lines f after_names (raw_lines_in after)
   lines-more names after_names rest after line cut opened =
       let raw = raw_line rest.first (before rest.text.now after.text.now) in
       let same : open_after names raw.line ≡ Ok after_names =
       ap (open_after names) (raw-line rest.first rest.text.now line after.text.now after.first cut) ∙ opened in
-      ap (local_lines local is_instance names) (first-raw rest.first rest.text.now line after.text.now after.first cut)
-      ∙ ap (λ (r : Result (List (List ℕ)) Refusal). local_step local is_instance (is_in_event names) raw (raw_lines_in after) r
-      (λ now. local_lines local is_instance now (raw_lines_in after))) same
+      ap (local_lines f names) (first-raw rest.first rest.text.now line after.text.now after.first cut)
+      ∙ ap (λ (r : Result (List (List ℕ)) Refusal). local_step f (is_in_event names) raw (raw_lines_in after) r
+      (λ now. local_lines f now (raw_lines_in after))) same
 
   pub event-more : (names after_names : List (List ℕ)) (rest after : Piece) (line : Line) (is_own : Bool) (old new all : List ℕ)
       → IsCut rest.first rest.text.now line after.text.now after.first → open_after names line ≡ Ok after_names
       → is_own ≡ (is_in_event names && is_in_event after_names)
-      → new ≡ old ++ local_raw local is_instance is_own (raw_line rest.first (before rest.text.now after.text.now))
-      → old ++ local_lines local is_instance names (raw_lines_in rest) ≡ all
-      → new ++ local_lines local is_instance after_names (raw_lines_in after) ≡ all
+      → new ≡ old ++ local_raw f is_own (raw_line rest.first (before rest.text.now after.text.now))
+      → old ++ local_lines f names (raw_lines_in rest) ≡ all
+      → new ++ local_lines f after_names (raw_lines_in after) ≡ all
   event-more names after_names rest after line is_own old new all cut opened own put so_far =
       let raw = raw_line rest.first (before rest.text.now after.text.now) in
-      ap (λ (t : List ℕ). t ++ local_lines local is_instance after_names (raw_lines_in after)) put
-      ∙ append_assoc old (local_raw local is_instance is_own raw) (local_lines local is_instance after_names (raw_lines_in after))
-      ∙ ap (λ (b : Bool). old ++ (local_raw local is_instance b raw ++ local_lines local is_instance after_names (raw_lines_in after))) own
+      ap (λ (t : List ℕ). t ++ local_lines f after_names (raw_lines_in after)) put
+      ∙ append_assoc old (local_raw f is_own raw) (local_lines f after_names (raw_lines_in after))
+      ∙ ap (λ (b : Bool). old ++ (local_raw f b raw ++ local_lines f after_names (raw_lines_in after))) own
       ∙ ap (λ (t : List ℕ). old ++ t) (sym (lines-more names after_names rest after line cut opened)) ∙ so_far
 
   -- behind a fault all stays
   pub event-fault : (names : List (List ℕ)) (rest after : Piece) (line : Line) (refusal : Refusal) (old new all : List ℕ)
       → IsCut rest.first rest.text.now line after.text.now after.first → open_after names line ≡ Err refusal
-      → new ≡ old ++ rest.text.now → old ++ local_lines local is_instance names (raw_lines_in rest) ≡ all → new ≡ all
+      → new ≡ old ++ rest.text.now → old ++ local_lines f names (raw_lines_in rest) ≡ all → new ≡ all
   event-fault names rest after line refusal old new all cut opened put so_far =
       let raw = raw_line rest.first (before rest.text.now after.text.now) in
       let first = first-raw rest.first rest.text.now line after.text.now after.first cut in
       let same : open_after names raw.line ≡ Err refusal =
       ap (open_after names) (raw-line rest.first rest.text.now line after.text.now after.first cut) ∙ opened in
-      let stays : local_lines local is_instance names (raw_lines_in rest) ≡ rest.text.now =
-      ap (local_lines local is_instance names) first
-      ∙ ap (λ (r : Result (List (List ℕ)) Refusal). local_step local is_instance (is_in_event names) raw (raw_lines_in after) r
-      (λ now. local_lines local is_instance now (raw_lines_in after))) same
+      let stays : local_lines f names (raw_lines_in rest) ≡ rest.text.now =
+      ap (local_lines f names) first
+      ∙ ap (λ (r : Result (List (List ℕ)) Refusal). local_step f (is_in_event names) raw (raw_lines_in after) r
+      (λ now. local_lines f now (raw_lines_in after))) same
       ∙ ap bytes_of (sym first) ∙ all-bytes rest.first rest.text.now in
       put ∙ ap (λ (t : List ℕ). old ++ t) (sym stays) ∙ so_far
 
   -- nothing is left
   pub event-done : (names : List (List ℕ)) (rest : Piece) (old all : List ℕ) → rest.text.now ≡ []
-      → old ++ local_lines local is_instance names (raw_lines_in rest) ≡ all → old ≡ all
+      → old ++ local_lines f names (raw_lines_in rest) ≡ all → old ≡ all
   event-done names rest old all none so_far =
-      sym (append-nil old) ∙ ap (λ (t : List ℕ). old ++ local_lines local is_instance names (raw_lines_at rest.first t)) (sym none) ∙ so_far
+      sym (append-nil old) ∙ ap (λ (t : List ℕ). old ++ local_lines f names (raw_lines_at rest.first t)) (sym none) ∙ so_far

@@ -4,6 +4,7 @@ use Rattle.std.proofs.Common.{Option, None, Some, Ok, Err, refl, ap, ◌∙◌, 
 use Rattle.std.specs.List.{join_with_byte}
 use Rattle.std.specs.Str.{str_eq_ignore_ascii_case}
 use Rattle.std.proofs.lemmas.List.Splits.{join_with_byte-slice_split}
+use Rattle.std.proofs.lemmas.Slice.Eq.{bytes_eq-Decides}
 use Rattle.rr_model.specs.Moment.{is_same_kind}
 use Rattle.rr_model.specs.Text.Lines.{without_mark}
 use Rattle.rr_model.specs.Text.Moments.{basic}
@@ -15,8 +16,9 @@ use Rattle.rr_model.specs.declared.stamp.Stamp.{Stamp}
 use Rattle.rr_events.specs.Finding.{before}
 use Rattle.rr_events.specs.Segments.{Section, Sections, sections_of}
 use Rattle.rr_ical.specs.declared.open_names.Sought.TheVariants.{EventsAndZones}
-use Rattle.rr_zone.specs.Lines.{dates_line}
-use Rattle.rr_zone.specs.Local.{has_zone, local_of_sections, local_parts, local_text, mentions_zone, or_itself}
+use Rattle.rr_zone.specs.Lines.{dates_front, dates_line, turned_line}
+use Rattle.rr_zone.specs.Local.{has_zone, local_of_sections, local_parts, local_text, mentions_zone}
+use Rattle.rr_zone.specs.OtherZones.{or_itself}
 use Rattle.rr_zone.specs.Parts.{PartLines, events_in, part_of, zones_in}
 use Rattle.rr_zone.specs.TextLaws.{HasNoUtc, HasNoZone, IsNotUtc, OtherDatesStay, OtherRulesStay, TextStays}
 use Rattle.rr_zone.specs.Values.{in_years, local_dates, local_moment, local_part, local_part_by, with_date, written, written_by}
@@ -43,14 +45,18 @@ all_kept local role (text ∷ texts) all =
     ap (λ (w : Written). with_date text w (local_dates local role texts)) (kept local role (basic (trim text)) (all 0 text (omega arith)))
     ∙ ap (λ (ts : List (List ℕ)). text ∷ ts) (all_kept local role texts (λ k d l. all (suc k) d (omega (arith, l))))
 
-line_of : (front : List ℕ) (texts : List (List ℕ)) (first : List ℕ) (more : List (List ℕ)) → texts ≡ first ∷ more → dates_line front texts ≡ front ++ join_with_byte 44 texts
-line_of front texts first more e = rw e refl
+line_of : (front value : List ℕ) (texts : List (List ℕ)) (first : List ℕ) (more : List (List ℕ)) → texts ≡ first ∷ more
+    → dates_line front value texts ≡ turned_line (dates_front front) front value (join_with_byte 44 texts)
+line_of front value texts first more e = rw e refl
+
+same_line : (turned front value : List ℕ) → turned_line turned front value value ≡ front ++ value
+same_line turned front value = ap (λ (b : Bool). (if b then front else turned) ++ value) ((bytes_eq-Decides value value).1 refl)
 
 pub other_dates_stay : OtherDatesStay
 other_dates_stay local role front text all =
     let some = split_some (λ c. c == 44) text in
-    ap (dates_line front) (all_kept local role (pieces 44 text) all) ∙ line_of front (pieces 44 text) some.first some.more some.is
-    ∙ ap (λ (t : List ℕ). front ++ t) (join_with_byte-slice_split 44 text)
+    ap (dates_line front text) (all_kept local role (pieces 44 text) all) ∙ line_of front text (pieces 44 text) some.first some.more some.is
+    ∙ ap (turned_line (dates_front front) front text) (join_with_byte-slice_split 44 text) ∙ same_line (dates_front front) front text
 
 -- ---- rules
 

@@ -197,7 +197,7 @@ module _ (last at : ℤ) (late_at : day_part Moments at <ℤ last) where
       ap (λ z. with_last found z x.to (last_listed x.onsets at)) t.from
       ∙ ap (λ z. with_last found o.from z (last_listed x.onsets at)) t.to ∙ ap (with_last found o.from o.to) e
 
-  lasts_are : (zone : List Observance) (tables : List Table) → AreTablesOf (last +ℤ pos 1) zone tables → (found : Option Onset)
+  pub lasts_are : (zone : List Observance) (tables : List Table) → AreTablesOf (last +ℤ pos 1) zone tables → (found : Option Onset)
       → last_of found tables at ≡ last_of_zone found zone at
   lasts_are [] [] t found = refl
   lasts_are [] (x ∷ xs) t found = absurd t
@@ -206,18 +206,18 @@ module _ (last at : ℤ) (late_at : day_part Moments at <ℤ last) where
       ap (λ z. last_of z xs at) (one_is o x t.0 found)
       ∙ lasts_are os xs t.1 (with_last found o.from o.to (option_map (λ t. t -ℤ o.from) (last_up_to (is_onset o.series) (at +ℤ o.from))))
 
-  firsts_are : (zone : List Observance) (tables : List Table) → AreTablesOf (last +ℤ pos 1) zone tables → (found : Option Onset)
-      → first_of found tables ≡ first_of_zone found zone
-  firsts_are [] [] t found = refl
-  firsts_are [] (x ∷ xs) t found = absurd t
-  firsts_are (o ∷ os) [] t found = absurd t
-  firsts_are (o ∷ os) (x ∷ xs) t found =
-      let e : Some (earlier found (record { at = x.first; from = x.from; to = x.to }))
-      ≡ Some (earlier found (record { at = first_onset o; from = o.from; to = o.to })) = rw (t.0.first, t.0.from, t.0.to) refl in
-      ap (λ z. first_of z xs) e ∙ firsts_are os xs t.1 (Some (earlier found (record { at = first_onset o; from = o.from; to = o.to })))
+pub firsts_are : (last : ℤ) (zone : List Observance) (tables : List Table) → AreTablesOf (last +ℤ pos 1) zone tables → (found : Option Onset)
+    → first_of found tables ≡ first_of_zone found zone
+firsts_are last [] [] t found = refl
+firsts_are last [] (x ∷ xs) t found = absurd t
+firsts_are last (o ∷ os) [] t found = absurd t
+firsts_are last (o ∷ os) (x ∷ xs) t found =
+    let e : Some (earlier found (record { at = x.first; from = x.from; to = x.to }))
+    ≡ Some (earlier found (record { at = first_onset o; from = o.from; to = o.to })) = rw (t.0.first, t.0.from, t.0.to) refl in
+    ap (λ z. first_of z xs) e ∙ firsts_are last os xs t.1 (Some (earlier found (record { at = first_onset o; from = o.from; to = o.to })))
 
 -- the tables of a zone tell its local time
 pub tables_tell : TablesTell
 tables_tell zone tables last at t years late =
     ap (λ z. local_by z (first_of None tables) at) (lasts_are last at late zone tables t.each None)
-    ∙ ap (λ z. local_by (last_of_zone None zone at) z at) (firsts_are last at late zone tables t.each None)
+    ∙ ap (λ z. local_by (last_of_zone None zone at) z at) (firsts_are last zone tables t.each None)

@@ -1,5 +1,5 @@
 -- What clocks of a zone show at a moment of UTC (RFC 5545, sections 3.3.5 and 3.6.5). Local time counts seconds since 1970-01-01T00:00:00.
-use Rattle.std.specs.Prelude.{if◌then◌else◌, ℤ, ◌+ℤ◌, int_lt, List, Option, None, Some}
+use Rattle.std.specs.Prelude.{if◌then◌else◌, ℤ, pos, ◌+ℤ◌, int_lt, List, Option, None, Some}
 use Rattle.rr_zone.specs.Onsets.{first_of_zone, last_of_zone}
 use Rattle.rr_zone.specs.declared.clock.LocalTime.{LocalTime}
 use Rattle.rr_zone.specs.declared.clock.LocalTime.TheVariants.{Once, Again, Skipping}
@@ -21,6 +21,16 @@ local_before (Some first) at = Once (at +ℤ first.from)
 abbrev pub local_by : Option Onset → Option Onset → ℤ → LocalTime
 local_by None first at = local_before first at
 local_by (Some onset) first at = local_from onset at
+
+-- local time less UTC before all onsets, of which this is the first: the offset in use prior to it; without any onset as in UTC
+abbrev pub offset_before : Option Onset → ℤ
+offset_before None = pos 0
+offset_before (Some first) = first.from
+
+-- local time less UTC by the last onset not after a moment, if there is one, and the first of all
+abbrev pub offset_from : Option Onset → Option Onset → ℤ
+offset_from None first = offset_before first
+offset_from (Some last) first = last.to
 
 -- The local time of a zone at a moment of UTC, and whether the clock was set at the last onset so that it is in doubt.
 abbrev pub local_time : List Observance → ℤ → LocalTime

@@ -6,8 +6,8 @@ use Rattle.rr_zone.specs.declared.clocks.NamedClock.{NamedClock}
 
 -- a clock is that of the zone of its name among these zones
 abbrev pub IsClockAmong : List (List RawLine) → NamedClock → Type 0
-IsClockAmong zones entry = entry.clock ≡ zone_named zones entry.name.now
+IsClockAmong zones entry = entry.clock ≡ zone_named zones entry.name
 
 -- a zone of this name stands at a place
 abbrev pub IsPlace : List NamedClock → List ℕ → ℕ → Type 0
-IsPlace known name place = (place < length known) × ((other : NamedClock) → (get_or known place other).name.now ≡ name)
+IsPlace known name place = (place < length known) × ((other : NamedClock) → (get_or known place other).name ≡ name)

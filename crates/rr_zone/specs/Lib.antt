@@ -3,9 +3,11 @@ pub mod Events
 pub mod Known
 pub mod Lines
 pub mod Local
+pub mod Moments
 pub mod Observances
 pub mod Offsets
 pub mod Onsets
+pub mod OtherZones
 pub mod Parts
 pub mod Rewritten
 pub mod Series

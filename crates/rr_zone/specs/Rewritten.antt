@@ -24,22 +24,21 @@ on_lines text blanks = (text ++ blank_lines blanks) ++ codes "\n"
 abbrev pub rewritten : List ℕ → List ℕ → List ℕ → ℕ → List ℕ
 rewritten new text bytes blanks = if bytes_eq new text then bytes else on_lines new blanks
 
--- a line of an event: where it is the event's own, and not of a component within it, with its moments of UTC in local time
-abbrev pub local_raw : (ℤ → LocalTime) → Bool → Bool → RawLine → List ℕ
-local_raw local is_instance false raw = raw.bytes
-local_raw local is_instance true raw =
-    rewritten (local_line local is_instance raw.line.text) raw.line.text raw.bytes (length (physical_lines raw.bytes) - 1)
+-- a line of an event: where it is the event's own, and not of a component within it, as this says
+abbrev pub local_raw : (List ℕ → List ℕ) → Bool → RawLine → List ℕ
+local_raw line false raw = raw.bytes
+local_raw line true raw = rewritten (line raw.line.text) raw.line.text raw.bytes (length (physical_lines raw.bytes) - 1)
 
 -- a line and those that follow it, by the components that are open after it; behind a fault of these all stays
-abbrev pub local_step : (ℤ → LocalTime) → Bool → Bool → RawLine → List RawLine → Result (List (List ℕ)) Refusal → (List (List ℕ) → List ℕ) → List ℕ
-local_step local is_instance was_in_event raw raws (Err refusal) more = bytes_of (raw ∷ raws)
-local_step local is_instance was_in_event raw raws (Ok after) more = local_raw local is_instance (was_in_event && is_in_event after) raw ++ more after
+abbrev pub local_step : (List ℕ → List ℕ) → Bool → RawLine → List RawLine → Result (List (List ℕ)) Refusal → (List (List ℕ) → List ℕ) → List ℕ
+local_step line was_in_event raw raws (Err refusal) more = bytes_of (raw ∷ raws)
+local_step line was_in_event raw raws (Ok after) more = local_raw line (was_in_event && is_in_event after) raw ++ more after
 
--- the bytes of the lines of an event, its own ones with their moments of UTC in local time
-abbrev pub local_lines : (ℤ → LocalTime) → Bool → List (List ℕ) → List RawLine → List ℕ
-local_lines local is_instance names [] = []
-local_lines local is_instance names (raw ∷ raws) =
-    local_step local is_instance (is_in_event names) raw raws (open_after names raw.line) (λ after. local_lines local is_instance after raws)
+-- the bytes of the lines of an event, its own ones as this says of their texts
+abbrev pub local_lines : (List ℕ → List ℕ) → List (List ℕ) → List RawLine → List ℕ
+local_lines line names [] = []
+local_lines line names (raw ∷ raws) =
+    local_step line (is_in_event names) raw raws (open_after names raw.line) (λ after. local_lines line after raws)
 
 -- ---- one line more
 

@@ -92,6 +92,11 @@ pub record IsNear (at : ℤ) : Type 0 where
   pub low : (pos 0 -ℤ pos 100_000_000_000) <ℤ at
   pub high : at <ℤ pos 300_000_000_000
 
+-- an onset is not after a moment, and not far
+pub record IsUpTo (at : ℤ) (onset : Onset) : Type 0 where
+  pub near : IsNear onset.at
+  pub early : onset.at ≤ℤ at
+
 -- Tables up to a day tell the local time of the zone at every moment of UTC before it.
 abbrev pub TablesTell : Type 0
 TablesTell = (zone : List Observance) (tables : List Table) (last at : ℤ) → AreListed zone tables last → IsInYears Moments at → day_part Moments at <ℤ last

@@ -29,7 +29,7 @@ HasNoUtc (Some (name, value)) = IsNotUtc (basic (trim value))
 abbrev pub OtherDatesStay : Type 0
 OtherDatesStay =
     (local : ℤ → LocalTime) (role : Role) (front text : List ℕ) → All (λ piece. IsNotUtc (basic (trim piece))) (pieces 44 text)
-    → dates_line front (local_dates local role (pieces 44 text)) ≡ front ++ text
+    → dates_line front text (local_dates local role (pieces 44 text)) ≡ front ++ text
 
 -- A rule without a moment of UTC stays as it is, byte by byte.
 abbrev pub OtherRulesStay : Type 0

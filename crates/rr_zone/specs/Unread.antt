@@ -1,15 +1,18 @@
 -- The zones that events of a text need and that can't be read.
-use Rattle.std.specs.Prelude.{ℕ, Bool, not, if◌then◌else◌, List, [], ◌∷◌, bytes_eq, map, Option, None, Some, option_and_then, option_map, Ok, Err}
+use Rattle.std.specs.Prelude.{ℕ, Bool, not, if◌then◌else◌, List, [], ◌∷◌, bytes_eq, map, Option, None, Some, option_map, Ok, Err}
 use Rattle.rr_model.specs.Text.Lines.{without_mark}
 use Rattle.rr_events.specs.RawLines.{RawLine, bytes_of}
 use Rattle.rr_events.specs.Segments.{Sections, sections_of}
 use Rattle.rr_ical.specs.declared.open_names.Sought.TheVariants.{EventsAndZones}
 use Rattle.rr_zone.specs.Clocks.{local_time}
-use Rattle.rr_zone.specs.Events.{turning_zone}
+use Rattle.rr_zone.specs.Events.{turning_start}
+use Rattle.rr_zone.specs.OtherZones.{event_line}
 use Rattle.rr_zone.specs.Parts.{PartLines, events_in, part_of, zones_in}
 use Rattle.rr_zone.specs.Rewritten.{local_lines}
 use Rattle.rr_zone.specs.Zones.{ReadZone, zone_named}
 use Rattle.rr_zone.specs.declared.event.EventFacts.{EventFacts}
+use Rattle.rr_zone.specs.declared.event.Start.{Start}
+use Rattle.rr_zone.specs.declared.event.Start.TheVariants.{Utc, Zoned, Unzoned}
 use Rattle.rr_zone.specs.declared.part.Content.{Content}
 use Rattle.rr_zone.specs.declared.part.Content.TheVariants.{Event, Zone, Other}
 use Rattle.rr_zone.specs.declared.unread.UnreadZone.{UnreadZone}
@@ -26,15 +29,21 @@ fault_at zones name = fault_by (zone_named zones name)
 
 -- an event has a moment of UTC that a zone turns: its lines change if local time is UTC itself
 abbrev pub needs_zone : Bool → List RawLine → Bool
-needs_zone is_instance raws = not (bytes_eq (local_lines (local_time []) is_instance [] raws) (bytes_of raws))
+needs_zone is_instance raws = not (bytes_eq (local_lines (event_line (local_time []) [] (Some []) is_instance) [] raws) (bytes_of raws))
 
 -- the zone of this name, if it can't be read
 abbrev pub unread_named : List (List RawLine) → List ℕ → Option UnreadZone
 unread_named zones name = option_map (λ fault. record { name = name; fault = fault }) (fault_at zones name)
 
--- the zone that an event names, if it can't be read
+-- the zone of a start, if it has one that can't be read
+abbrev pub unread_at : List (List RawLine) → Start → Option UnreadZone
+unread_at zones Utc = None
+unread_at zones (Zoned name) = unread_named zones name
+unread_at zones Unzoned = None
+
+-- the zone in which an event is written, if it can't be read
 abbrev pub unread_by : List (List RawLine) → List EventFacts → EventFacts → Option UnreadZone
-unread_by zones events event = option_and_then (unread_named zones) (turning_zone events event)
+unread_by zones events event = unread_at zones (turning_start events event)
 
 -- the zone that a part needs, if it is an event and its zone can't be read
 abbrev pub unread_of : List (List RawLine) → List EventFacts → Content → List RawLine → Option UnreadZone

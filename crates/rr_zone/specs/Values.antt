@@ -1,5 +1,5 @@
 -- Values of lines with their moments of UTC in local time (RFC 5545, sections 3.3.5, 3.3.10, 3.6.5, 3.8.4.4 and 3.8.5).
-use Rattle.std.specs.Prelude.{ℕ, ◌&&◌, if◌then◌else◌, ℤ, pos, ◌-ℤ◌, List, [], ◌∷◌, ◌++◌, map, codes, Option, None, Some, ⊤}
+use Rattle.std.specs.Prelude.{ℕ, not, ◌&&◌, if◌then◌else◌, ℤ, pos, ◌-ℤ◌, List, [], ◌∷◌, ◌++◌, map, codes, Option, None, Some, option_and_then, option_map, ⊤}
 use Rattle.std.specs.List.{join_with_byte}
 use Rattle.std.specs.Str.{str_eq_ignore_ascii_case}
 use Rattle.rr_model.specs.Moment.{is_same_kind}
@@ -72,6 +72,32 @@ with_date text (At at) dates = basic_text Moments at ∷ dates
 abbrev pub local_dates : (ℤ → LocalTime) → Role → List (List ℕ) → List (List ℕ)
 local_dates local role [] = []
 local_dates local role (text ∷ texts) = with_date text (written_as local role text) (local_dates local role texts)
+
+-- ---- local times of another zone; `moment` tells the moment of UTC that one names
+
+-- how a date value that states this is written in UTC: all but local time as it is; None if its moment can't be told
+abbrev pub utc_written_by : (ℤ → Option ℤ) → Option Stamp → Option Written
+utc_written_by moment None = Some Kept
+utc_written_by moment (Some stamp) = if is_same_kind stamp.kind Moments && not stamp.utc then option_map At (moment stamp.at) else Some Kept
+
+-- the text of a date value that is written so in UTC
+abbrev pub utc_text_as : List ℕ → Written → List ℕ
+utc_text_as text Kept = text
+utc_text_as text LeftOut = text
+utc_text_as text (At at) = basic_text Moments at ++ codes "Z"
+
+-- a date value in UTC
+abbrev pub utc_date : (ℤ → Option ℤ) → List ℕ → Option (List ℕ)
+utc_date moment text = option_map (utc_text_as text) (utc_written_by moment (basic (trim text)))
+
+-- date values in UTC, if the moments of all can be told
+abbrev pub utc_dates : (ℤ → Option ℤ) → List (List ℕ) → Option (List (List ℕ))
+utc_dates moment [] = Some []
+utc_dates moment (text ∷ texts) = option_and_then (λ date. option_map (λ dates. date ∷ dates) (utc_dates moment texts)) (utc_date moment text)
+
+-- the date values between commas in UTC
+abbrev pub utc_value : (ℤ → Option ℤ) → List ℕ → Option (List ℕ)
+utc_value moment text = option_map (join_with_byte 44) (utc_dates moment (pieces 44 text))
 
 -- ---- a rule
 

@@ -1,5 +1,5 @@
 -- The time zones of a calendar text (RFC 5545, section 3.6.5).
-use Rattle.std.specs.Prelude.{ℕ, ◌+◌, ◌<◌, ◌^◌, length, Bool, true, false, ◌&&◌, if◌then◌else◌, List, [], ◌∷◌, bytes_eq, codes, ok_or, Result, Ok, Err}
+use Rattle.std.specs.Prelude.{ℕ, ◌+◌, ◌<◌, ◌^◌, length, Bool, true, false, ◌&&◌, if◌then◌else◌, List, [], ◌∷◌, bytes_eq, codes, ok_or, Option, None, Some, Result, Ok, Err}
 use Rattle.std.specs.List.{filter, list_all}
 use Rattle.rr_model.specs.declared.line.Line.{Line}
 use Rattle.rr_events.specs.Own.{first_value}
@@ -78,6 +78,15 @@ zone_of_all (first ∷ more) = if are_same (lines_of first) more then zone_of fi
 -- The zone of a name among the VTIMEZONEs of a text: the one of this name that can be read, or several that have the same texts.
 abbrev pub zone_named : List (List RawLine) → List ℕ → ReadZone
 zone_named zones name = zone_of_all (filter (has_name name) zones)
+
+-- a zone, if it can be read
+abbrev pub if_read : ReadZone → Option (List Observance)
+if_read (Ok zone) = Some zone
+if_read (Err fault) = None
+
+-- the zone of this name among the zones of a text, if there is one that can be read
+abbrev pub zone_at : List (List RawLine) → List ℕ → Option (List Observance)
+zone_at zones name = if_read (zone_named zones name)
 
 -- ---- by pieces of the text
 

@@ -1,16 +1,18 @@
 // What clocks of a zone show at moments of UTC.
-ghost use Rattle.std.specs.Prelude.{◌≡◌, ◌≤ℤ◌, ◌<ℤ◌, ◌+ℤ◌, ℤ, None, IfOk, IfSome, int_lt, pos};
+ghost use Rattle.std.specs.Prelude.{◌≡◌, ◌≤ℤ◌, ◌<ℤ◌, ◌+ℤ◌, ◌-ℤ◌, ℤ, None, IfOk, IfSome, int_lt, pos};
 ghost use Rattle.rr_model.specs.Calendar.{first_day_of_year};
 ghost use Rattle.rr_model.specs.Moment.Years.{HasFourDigitYear, IsInYears};
 ghost use Rattle.rr_model.specs.Rising.{Rises};
 ghost use Rattle.rr_model.specs.declared.kind.Kind.TheVariants.{Moments};
-ghost use Rattle.rr_zone.specs.Clocks.{local_before, local_by, local_from, local_time};
-ghost use Rattle.rr_zone.specs.Onsets.{earlier, later, with_last};
-ghost use Rattle.rr_zone.specs.Tables.{IsCountUpTo, IsLastDay, IsNear, first_of, last_day, last_listed, last_of};
+ghost use Rattle.rr_zone.specs.Clocks.{local_before, local_from, local_time, offset_before, offset_from};
+ghost use Rattle.rr_zone.specs.Moments.{is_over, moment_about, moment_at_offset, moment_by, offset_about, utc_moment};
+ghost use Rattle.rr_zone.specs.Onsets.{earlier, first_of_zone, last_of_zone, later, with_last};
+ghost use Rattle.rr_zone.specs.Tables.{IsCountUpTo, IsLastDay, IsNear, IsUpTo, first_of, last_day, last_listed, last_of};
 
 use crate::onsets::tables_of;
 use crate::zone::Zone;
 use rr_model::{Dates, FIRST_DAY, Kind, NoMemory, day_part};
+use rr_text::later_in_years;
 use std::alloc::Global;
 use std::marker::Model;
 
@@ -75,6 +77,9 @@ const LAST_DAY: i64 = 2_932_897;
 
 // Ten years.
 const SOME_YEARS: i64 = 3_653;
+
+// A day.
+const DAY_SECONDS: i32 = 86_400;
 
 // How many of some onsets are not after a moment.
 fn count_up_to(onsets: &[i64], at: i64) -> usize
@@ -163,6 +168,14 @@ fn moved(at: i64, offset: i32) -> i64
     at + i64::from(offset)
 }
 
+// What is earlier by this offset.
+fn less(at: i64, offset: i32) -> i64
+    requires { IsNear at }
+    ensures { result ≡ at -ℤ offset }
+{
+    at - i64::from(offset)
+}
+
 // Local time from an onset on.
 fn local_from(onset: Onset, at: i64) -> LocalTime
     requires onset { IsNear onset.at }
@@ -194,16 +207,76 @@ fn local_before(first: Option<Onset>, at: i64) -> LocalTime
     }
 }
 
-// Local time by tables that reach far enough.
-fn local_by(tables: &[Table], at: i64) -> LocalTime
-    requires onset { IfSome (last_of None tables.now at) (λ onset. IsNear onset.at) }
-    requires at { IsNear at }
-    ensures { result ≡ local_by (last_of None tables.now at) (first_of None tables.now) at }
+// Local time less UTC before all onsets, of which this is the first.
+fn offset_before(first: Option<Onset>) -> i32
+    ensures { result ≡ offset_before first }
 {
-    match last_of_all(tables, at) {
-        Some(onset) => local_from(onset, at),
-        None => local_before(first_of_all(tables), at),
+    match first {
+        None => 0,
+        Some(first) => first.from,
     }
+}
+
+// Local time less UTC by the last onset, and the first of all.
+fn offset_from(last: Option<Onset>, first: Option<Onset>) -> i32
+    ensures { result ≡ offset_from last first }
+{
+    match last {
+        None => offset_before(first),
+        Some(last) => last.to,
+    }
+}
+
+// The moment of a local time that is so far ahead of UTC, if it is one of the years 1 to 9999.
+fn moment_at_offset(local: i64, offset: i32) -> Option<i64>
+    requires { IsNear local }
+    ensures value { result ≡ moment_at_offset local offset }
+    ensures years { IfSome result (IsInYears Moments) }
+{
+    later_in_years(less(local, offset), 0)
+}
+
+// Whether no onset lies behind a moment.
+fn is_over(early: i64, onset: Option<Onset>) -> bool
+    ensures { result ≡ is_over early onset }
+{
+    match onset {
+        None => true,
+        Some(onset) => onset.at <= early,
+    }
+}
+
+// How far a local time about an onset is ahead of UTC.
+fn offset_about(before: i32, onset: Onset, local: i64) -> i32
+    requires { IsNear onset.at }
+    ensures { result ≡ offset_about before onset local }
+{
+    let unset = moved(onset.at, before);
+    let set = moved(onset.at, onset.to);
+    if local < unset || local < set {
+        before
+    } else {
+        onset.to
+    }
+}
+
+// The moment of a local time by the onset that it is about and the one before that.
+fn moment_about(
+    first: Option<Onset>,
+    previous: Option<Onset>,
+    onset: Onset,
+    local: i64,
+) -> Option<i64>
+    requires onset { IsNear onset.at }
+    requires local { IsNear local }
+    ensures value { result ≡ moment_about first previous onset local }
+    ensures years { IfSome result (IsInYears Moments) }
+{
+    if !is_over(less(local, DAY_SECONDS), previous) {
+        return None;
+    }
+    let before = offset_from(previous, first);
+    moment_at_offset(local, offset_about(before, onset, local))
 }
 
 // Days from the first onset up to a day.
@@ -261,10 +334,18 @@ impl Clock {
         })
     }
 
-    /// Local time at a moment of UTC in the years 1 to 9999. Onsets are listed anew for a moment behind them.
-    pub(crate) fn local_time(&mut self, alloc: Global, at: i64) -> Result<LocalTime, NoMemory>
+    // The first onset.
+    fn first(&self) -> Option<Onset>
+        ensures { result ≡ first_of_zone None self.now }
+    {
+        first_of_all(&self.tables)
+    }
+
+    // The last onset that is not after a moment of UTC in the years 1 to 9999. Onsets are listed anew for a moment behind them.
+    fn last(&mut self, alloc: Global, at: i64) -> Result<Option<Onset>, NoMemory>
         requires { IsInYears Moments at }
-        ensures time { IfOk result (λ time. time ≡ local_time self.old at) }
+        ensures onset { IfOk result (λ onset. onset ≡ last_of_zone None self.old at) }
+        ensures up_to { IfOk result (λ onset. IfSome onset (IsUpTo at)) }
         ensures zone { self.new ≡ self.old }
     {
         let day = day_part(Kind::Moments, at);
@@ -273,6 +354,60 @@ impl Clock {
             self.tables = tables_of(alloc, self.zone.as_slice(), last)?;
             self.last = last;
         }
-        Ok(local_by(&self.tables, at))
+        Ok(last_of_all(&self.tables, at))
+    }
+
+    /// Local time at a moment of UTC in the years 1 to 9999.
+    pub(crate) fn local_time(&mut self, alloc: Global, at: i64) -> Result<LocalTime, NoMemory>
+        requires { IsInYears Moments at }
+        ensures time { IfOk result (λ time. time ≡ local_time self.old at) }
+        ensures zone { self.new ≡ self.old }
+    {
+        match self.last(alloc, at)? {
+            Some(onset) => Ok(local_from(onset, at)),
+            None => Ok(local_before(self.first(), at)),
+        }
+    }
+
+    // The moment of UTC that a local time names, by the last onset that is not more than a day after it.
+    fn moment_by(
+        &mut self,
+        alloc: Global,
+        local: i64,
+        last: Option<Onset>,
+    ) -> Result<Option<i64>, NoMemory>
+        requires local { IsNear local }
+        requires early { IsInYears Moments (local -ℤ pos 86_400) }
+        requires late { IsInYears Moments (local +ℤ pos 86_400) }
+        requires last { IfSome last (IsUpTo (local +ℤ pos 86_400)) }
+        ensures value { IfOk result (λ moment. moment ≡ moment_by self.old local last) }
+        ensures years { IfOk result (λ moment. IfSome moment (IsInYears Moments)) }
+        ensures zone { self.new ≡ self.old }
+    {
+        let Some(onset) = last else {
+            return Ok(moment_at_offset(local, offset_before(self.first())));
+        };
+        if onset.at <= less(local, DAY_SECONDS) {
+            return Ok(moment_at_offset(local, onset.to));
+        }
+        let previous = self.last(alloc, less(onset.at, 1))?;
+        Ok(moment_about(self.first(), previous, onset, local))
+    }
+
+    /// The moment of UTC that a local time of the years 1 to 9999 names. None if the clock is set twice in the two days about it.
+    pub(crate) fn moment(&mut self, alloc: Global, local: i64) -> Result<Option<i64>, NoMemory>
+        requires { IsInYears Moments local }
+        ensures value { IfOk result (λ moment. moment ≡ utc_moment self.old local) }
+        ensures years { IfOk result (λ moment. IfSome moment (IsInYears Moments)) }
+        ensures zone { self.new ≡ self.old }
+    {
+        if later_in_years(local, -DAY_SECONDS).is_none() {
+            return Ok(None);
+        }
+        let Some(late) = later_in_years(local, DAY_SECONDS) else {
+            return Ok(None);
+        };
+        let last = self.last(alloc, late)?;
+        self.moment_by(alloc, local, last)
     }
 }

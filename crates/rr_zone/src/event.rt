@@ -1,43 +1,78 @@
 // What an event states of its zone.
-ghost use Rattle.std.specs.Prelude.{◌≡◌, map, option_map, IfOk};
-ghost use Rattle.rr_zone.specs.Events.{event_facts, facts_of, zone_on};
+ghost use Rattle.std.specs.Prelude.{◌≡◌, Some, map, option_and_then, option_map, IfOk};
+ghost use Rattle.rr_model.specs.Text.Moments.{basic};
+ghost use Rattle.rr_model.specs.Text.UsedLines.{value_of_line};
+ghost use Rattle.rr_zone.specs.Events.{event_facts, facts_of, start_by, start_in, start_on};
 
 use rr_events::{first_named, first_value, own_lines, parameter_of};
 use rr_ical::value_of_line;
-use rr_model::{Bytes, Kind, Line, NoMemory};
+use rr_model::{Bytes, Kind, Line, NoMemory, Stamp};
 use rr_text::basic;
 use std::alloc::Global;
+
+/// In which zone a start is stated.
+#[derive(Drop)]
+pub(crate) enum Start {
+    /// In UTC.
+    Utc,
+    /// In local time of the zone that its TZID parameter names.
+    Zoned(Bytes),
+    /// In none: it is local time without a zone or a date, or there is no start.
+    Unzoned,
+}
 
 /// What an event states of its zone.
 #[derive(Drop)]
 pub(crate) struct EventFacts {
     /// Its UID, empty where it has none.
     pub(crate) uid: Bytes,
-    /// The TZID parameter of its DTSTART, if that states a moment of local time.
-    pub(crate) zone: Option<Bytes>,
+    /// Its DTSTART.
+    pub(crate) start: Start,
     /// Whether it has a RECURRENCE-ID.
     pub(crate) is_instance: bool,
 }
 
-// The TZID parameter of a DTSTART line that states a moment of local time.
-fn zone_on<'a>(line: Option<&'a Line>) -> Option<&'a [u8]>
-    ensures { option_map (λ zone. zone.now) result ≡ zone_on (option_map (λ line. line.now) line.entry) }
+// Local time of the zone that a TZID parameter names, if there is one.
+fn start_in(alloc: Global, name: Option<&[u8]>) -> Result<Start, NoMemory>
+    ensures { IfOk result (λ start. start ≡ start_in (option_map (λ name. name.now) name.entry)) }
 {
-    let text = line?.text.as_slice();
-    let stamp = basic(value_of_line(text)?)?;
-    if !stamp.kind.is_same(Kind::Moments) || stamp.utc {
-        return None;
+    match name {
+        Some(name) => Ok(Start::Zoned(Bytes::of(alloc, name)?)),
+        None => Ok(Start::Unzoned),
     }
-    parameter_of(b"TZID", text)
 }
 
-// A copy of a text, if there is one.
-fn copy_of(alloc: Global, text: Option<&[u8]>) -> Result<Option<Bytes>, NoMemory>
-    ensures { IfOk result (λ made. made ≡ option_map (λ text. text.now) text.entry) }
+// What a DTSTART line states whose value is this.
+fn start_by(alloc: Global, text: &[u8], stamp: Stamp) -> Result<Start, NoMemory>
+    ensures { IfOk result (λ start. start ≡ start_by text.now (Some stamp)) }
 {
-    match text {
-        Some(text) => Ok(Some(Bytes::of(alloc, text)?)),
-        None => Ok(None),
+    if !stamp.kind.is_same(Kind::Moments) {
+        return Ok(Start::Unzoned);
+    }
+    if stamp.utc {
+        return Ok(Start::Utc);
+    }
+    start_in(alloc, parameter_of(b"TZID", text))
+}
+
+// The date value of a line, if it has one.
+fn stamp_on(text: &[u8]) -> Option<Stamp>
+    ensures { result ≡ option_and_then basic (value_of_line text.now) }
+{
+    basic(value_of_line(text)?)
+}
+
+// What a DTSTART line states, if there is one.
+fn start_on(alloc: Global, line: Option<&Line>) -> Result<Start, NoMemory>
+    ensures { IfOk result (λ start. start ≡ start_on (option_map (λ line. line.now) line.entry)) }
+{
+    let Some(line) = line else {
+        return Ok(Start::Unzoned);
+    };
+    let text = line.text.as_slice();
+    match stamp_on(text) {
+        Some(stamp) => start_by(alloc, text, stamp),
+        None => Ok(Start::Unzoned),
     }
 }
 
@@ -47,7 +82,7 @@ fn facts_of(alloc: Global, own: &[&Line]) -> Result<EventFacts, NoMemory>
 {
     Ok(EventFacts {
         uid: Bytes::of(alloc, first_value(b"UID", own))?,
-        zone: copy_of(alloc, zone_on(first_named(b"DTSTART", own)))?,
+        start: start_on(alloc, first_named(b"DTSTART", own))?,
         is_instance: first_named(b"RECURRENCE-ID", own).is_some(),
     })
 }

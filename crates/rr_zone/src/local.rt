@@ -1,20 +1,18 @@
 // A calendar text with its moments of UTC in local time.
-ghost use Rattle.std.specs.Prelude.{◌≡◌, ◌||◌, false, List, take, map, option_map, All, IfOk, OnOk};
-ghost use Rattle.std.specs.Option.{is_some};
-ghost use Rattle.rr_events.specs.RawLines.{bytes_of};
+ghost use Rattle.std.specs.Prelude.{◌≡◌, ◌≤◌, ◌<◌, ◌+◌, ◌||◌, drop, false, length, List, take, map, option_map, All, IfOk, OnOk};
 ghost use Rattle.rr_events.specs.Segments.{section_in};
 ghost use Rattle.rr_text.specs.Appending.{Appends};
-ghost use Rattle.rr_zone.specs.Local.{begins_zone, has_zone, local_by_zone, local_of_parts, local_part, local_parts, local_text, mentions_zone, zone_of_event, zone_of_part};
+ghost use Rattle.rr_zone.specs.Local.{begins_zone, has_zone, is_turned_part, local_of_parts, local_part, local_parts, local_text, mentions_zone};
 ghost use Rattle.rr_zone.specs.Parts.{IsNumberedPart, events_in, part_in, part_of};
 ghost use Rattle.rr_zone.specs.Series.{IsSeriesMap};
 ghost use Rattle.rr_zone.specs.declared.event.EventFacts.{EventFacts};
-ghost use Rattle.rr_zone.specs.Zones.{IsNumbered, raw_lines_in};
+ghost use Rattle.rr_zone.specs.Zones.{IsNumbered};
 
-use crate::clocks::Clocks;
-use crate::event::EventFacts;
+use crate::clocks::{Clocks, TextClocks, push_piece};
 use crate::line::before;
 use crate::part::{Content, Part, parts_of, zones_in};
-use crate::series::{SeriesZones, series_zones, turning_zone};
+use crate::series::{SeriesStarts, series_starts, turning_start};
+use memchr::memchr2;
 use rr_events::{Piece, Segment, segments};
 use rr_ical::{Sought, is_same_name};
 use rr_model::{Fault, NoMemory};
@@ -35,69 +33,56 @@ fn begins_zone(text: &[u8]) -> bool
     is_same_name(front(text), b"VTIMEZONE")
 }
 
-// Whether the name of a zone's component stands somewhere in a text.
+// What stands behind the first `count` bytes.
+fn rest_from(text: &[u8], count: usize) -> &[u8]
+    requires { count ≤ length text.now }
+    ensures { result.now ≡ drop count text.now }
+{
+    &text[count..]
+}
+
+// What stands behind the byte at an index.
+fn behind(text: &[u8], index: usize) -> &[u8]
+    requires { index < length text.now }
+    ensures { result.now ≡ drop (index + 1) text.now }
+{
+    &text[index + 1..]
+}
+
+// Whether the name of a zone's component stands somewhere in a text. Only places with its first letter are looked at.
 fn mentions_zone(text: &[u8]) -> bool
     ensures { result ≡ mentions_zone text.now }
 {
     let mut rest = text;
-    while let [_, after @ ..] = rest {
-        if begins_zone(rest) {
+    while let Some(index) = memchr2(b'V', b'v', rest) {
+        if begins_zone(rest_from(rest, index)) {
             return true;
         }
-        rest = after;
+        rest = behind(rest, index);
     }
     false
 }
 
-// A piece that stays, and that it has no zone.
-fn push_piece(out: &mut Vec<u8>, piece: Piece) -> Result<bool, NoMemory>
-    ensures value { OnOk result (Appends out.old out.new (bytes_of (raw_lines_in piece.entry))) }
-    ensures turned { IfOk result (λ turned. turned ≡ false) }
-{
-    out.extend_from_slice(piece.text)?;
-    Ok(false)
-}
-
-// The bytes of an event with its moments of UTC in local time, and whether it has a zone.
-fn push_event<'a>(
-    alloc: Global,
-    out: &mut Vec<u8>,
-    clocks: &mut Clocks<'a>,
-    series: &SeriesZones<'a>,
-    event: &'a EventFacts,
-    piece: Piece,
-) -> Result<bool, NoMemory>
-    requires { IsNumbered piece }
-    ensures value { (events : List EventFacts) → IsSeriesMap series.now events
-        → OnOk result (Appends out.old out.new (local_by_zone
-        (zone_of_event clocks.old events event.now) event.now.is_instance (raw_lines_in piece.entry))) }
-    ensures turned { (events : List EventFacts) → IsSeriesMap series.now events
-        → IfOk result (λ turned. turned ≡ is_some (zone_of_event clocks.old events event.now)) }
-    ensures clocks { clocks.new ≡ clocks.old }
-{
-    match turning_zone(series, event) {
-        Some(name) => clocks.push_event(alloc, out, name, event.is_instance, piece),
-        None => push_piece(out, piece),
-    }
-}
-
-// The bytes of a part with its moments of UTC in local time, and whether it is an event with a zone.
+// The bytes of a part with its moments in the zone in which it is written, and whether it is turned.
 fn push_part<'a>(
     alloc: Global,
     out: &mut Vec<u8>,
-    clocks: &mut Clocks<'a>,
-    series: &SeriesZones<'a>,
+    clocks: &mut TextClocks<'a>,
+    series: &SeriesStarts<'a>,
     part: &'a Part,
 ) -> Result<bool, NoMemory>
     requires { IsNumberedPart part.now }
     ensures value { (events : List EventFacts) → IsSeriesMap series.now events
         → OnOk result (Appends out.old out.new (local_part clocks.old events (part_in part.now))) }
     ensures turned { (events : List EventFacts) → IsSeriesMap series.now events
-        → IfOk result (λ turned. turned ≡ is_some (zone_of_part clocks.old events part.now.content)) }
+        → IfOk result (λ turned. turned ≡ is_turned_part clocks.old events part.now.content) }
     ensures clocks { clocks.new ≡ clocks.old }
 {
     match &part.content {
-        Content::Event(event) => push_event(alloc, out, clocks, series, event, part.piece),
+        Content::Event(event) => {
+            let start = turning_start(series, event);
+            clocks.push_event(alloc, out, start, event.is_instance, part.piece)
+        }
         Content::Zone => push_piece(out, part.piece),
         Content::Other => push_piece(out, part.piece),
     }
@@ -109,12 +94,12 @@ fn either(a: bool, b: bool) -> bool
     a || b
 }
 
-// The bytes of the parts in a row, with their moments of UTC in local time, and whether some event has a zone.
+// The bytes of the parts in a row, and whether one is turned.
 fn push_parts<'a>(
     alloc: Global,
     out: &mut Vec<u8>,
-    clocks: &mut Clocks<'a>,
-    series: &SeriesZones<'a>,
+    clocks: &mut TextClocks<'a>,
+    series: &SeriesStarts<'a>,
     parts: &'a [Part],
 ) -> Result<bool, NoMemory>
     requires numbered { All IsNumberedPart parts.now }
@@ -138,8 +123,11 @@ fn local_of_parts(alloc: Global, mark: &[u8], parts: &[Part]) -> Result<Option<V
     ensures { IfOk result (λ text. option_map (λ bytes. bytes.items) text
         ≡ local_of_parts mark.now (map part_in parts.now)) }
 {
-    let series = series_zones(alloc, parts)?;
-    let mut clocks = Clocks::new(alloc, zones_in(alloc, parts)?);
+    let series = series_starts(alloc, parts)?;
+    let mut clocks = TextClocks::new(
+        Clocks::new(alloc, zones_in(alloc, parts)?),
+        Clocks::new(alloc, zones_in(alloc, parts)?),
+    );
     let mut out = Vec::new(alloc);
     out.extend_from_slice(mark)?;
     if push_parts(alloc, &mut out, &mut clocks, &series, parts)? {
@@ -163,8 +151,9 @@ fn local_of_segments(
     local_of_parts(alloc, mark, parts.as_slice())
 }
 
-/// The text with each moment of UTC beside a local start in local time of the start's zone, if the text defines that; None if it
-/// defines none that an event names.
+/// The text with the moments of each event in the zone of its series: one of UTC beside a local start in local time of the start's
+/// zone, and a local time of another zone in that of the start, or in UTC beside a start in UTC, if the text defines the zones. None if
+/// it defines none that an event names, and has none beside an event in UTC.
 ///
 /// The moments are those of UNTIL, EXDATE, RDATE and RECURRENCE-ID and the start of an instance. All other bytes stay, and each line
 /// keeps its number. A text whose components are at fault is None, as is one in which VTIMEZONE stands nowhere in one piece.

@@ -1,16 +1,17 @@
 // The lines of an event written again, each on as many physical lines as it had.
-ghost use Rattle.std.specs.Prelude.{◌≡◌, [], OnOk};
+ghost use Rattle.std.specs.Prelude.{◌≡◌, [], option_map, OnOk};
 ghost use Rattle.rr_events.specs.Cutting.{IsCut};
 ghost use Rattle.rr_events.specs.Finding.{before};
 ghost use Rattle.rr_events.specs.RawLines.{raw_line};
 ghost use Rattle.rr_text.specs.Appending.{Appends};
-ghost use Rattle.rr_zone.specs.Lines.{local_line};
+ghost use Rattle.rr_zone.specs.OtherZones.{event_line};
 ghost use Rattle.rr_zone.specs.Zones.{IsNumbered, raw_lines_in};
 ghost use Rattle.rr_zone.specs.Rewritten.{IsOwnStep, blank_lines, local_lines, local_raw, on_lines, rewritten};
 ghost use Rattle.rr_zone.specs.Clocks.{local_time};
 
 use crate::clock::Clock;
-use crate::line::{before, push_line};
+use crate::clocks::Clocks;
+use crate::line::{before, push_event_line};
 use rr_events::{Cut, Piece, cut_line};
 use rr_ical::OpenNames;
 use rr_model::{Fault, Line, NoMemory};
@@ -61,17 +62,20 @@ fn push_own(
     alloc: Global,
     out: &mut Vec<u8>,
     clock: &mut Clock,
+    others: &mut Clocks,
+    name: Option<&[u8]>,
     is_instance: bool,
     text: &[u8],
     bytes: &[u8],
     blanks: u64,
 ) -> Result<(), NoMemory>
-    ensures value { OnOk result (Appends out.old out.new (rewritten
-        (local_line (local_time clock.old) is_instance text.now) text.now bytes.now blanks)) }
+    ensures value { OnOk result (Appends out.old out.new (rewritten (event_line (local_time clock.old) others.old
+        (option_map (λ name. name.now) name.entry) is_instance text.now) text.now bytes.now blanks)) }
     ensures clock { clock.new ≡ clock.old }
+    ensures others { others.new ≡ others.old }
 {
     let mut new = Vec::new(alloc);
-    push_line(alloc, &mut new, clock, is_instance, text)?;
+    push_event_line(alloc, &mut new, clock, others, name, is_instance, text)?;
     push_rewritten(out, new.as_slice(), text, bytes, blanks)
 }
 
@@ -89,15 +93,19 @@ fn push_cut(
     alloc: Global,
     out: &mut Vec<u8>,
     clock: &mut Clock,
+    others: &mut Clocks,
+    name: Option<&[u8]>,
     is_instance: bool,
     is_own: bool,
     piece: Piece,
     cut: &Cut,
 ) -> Result<(), NoMemory>
     requires { IsCut piece.first piece.text.now cut.now.line cut.now.after.now cut.now.next }
-    ensures value { OnOk result (Appends out.old out.new (local_raw (local_time clock.old) is_instance is_own
+    ensures value { OnOk result (Appends out.old out.new (local_raw (event_line (local_time clock.old) others.old
+        (option_map (λ name. name.now) name.entry) is_instance) is_own
         (raw_line piece.entry.first (before piece.entry.text.now cut.now.after.now)))) }
     ensures clock { clock.new ≡ clock.old }
+    ensures others { others.new ≡ others.old }
 {
     let bytes = before(piece.text, cut.after);
     if !is_own {
@@ -109,6 +117,8 @@ fn push_cut(
         alloc,
         out,
         clock,
+        others,
+        name,
         is_instance,
         cut.line.text.as_slice(),
         bytes,
@@ -116,24 +126,37 @@ fn push_cut(
     )
 }
 
-/// The bytes of the lines of an event, its own ones with their moments of UTC in local time.
+/// The bytes of the lines of an event, its own ones with their moments in the zone of this name, whose clock this is; without a name in UTC.
 pub(crate) fn push_event(
     alloc: Global,
     out: &mut Vec<u8>,
     clock: &mut Clock,
+    others: &mut Clocks,
+    name: Option<&[u8]>,
     is_instance: bool,
     piece: Piece,
 ) -> Result<(), NoMemory>
     requires { IsNumbered piece }
-    ensures value { OnOk result (Appends out.old out.new
-        (local_lines (local_time clock.old) is_instance [] (raw_lines_in piece.entry))) }
+    ensures value { OnOk result (Appends out.old out.new (local_lines (event_line (local_time clock.old) others.old
+        (option_map (λ name. name.now) name.entry) is_instance) [] (raw_lines_in piece.entry))) }
     ensures clock { clock.new ≡ clock.old }
+    ensures others { others.new ≡ others.old }
 {
     let mut names = OpenNames::new(alloc);
     let mut rest = piece;
     while let Some(cut) = cut_line(alloc, rest.text, rest.first)? {
         match own_step(alloc, &mut names, &cut.line) {
-            Ok(is_own) => push_cut(alloc, out, clock, is_instance, is_own, rest, &cut)?,
+            Ok(is_own) => push_cut(
+                alloc,
+                out,
+                clock,
+                others,
+                name,
+                is_instance,
+                is_own,
+                rest,
+                &cut,
+            )?,
             Err(Fault::NoMemory) => return Err(NoMemory),
             Err(Fault::Refused(_)) => {
                 out.extend_from_slice(rest.text)?;

@@ -3,16 +3,16 @@ ghost use Rattle.std.specs.Prelude.{◌≡◌, ◌++◌, [], List, None, map, if
 ghost use Rattle.rr_events.specs.Segments.{section_in};
 ghost use Rattle.rr_zone.specs.Parts.{IsNumberedPart, events_in, part_in, part_of};
 ghost use Rattle.rr_zone.specs.Series.{IsSeriesMap};
-ghost use Rattle.rr_zone.specs.Unread.{needs_zone, unread_by, unread_in, unread_named, unread_of, unread_of_parts, unread_zones, with_unread};
+ghost use Rattle.rr_zone.specs.Unread.{needs_zone, unread_at, unread_by, unread_in, unread_named, unread_of, unread_of_parts, unread_zones, with_unread};
 ghost use Rattle.rr_zone.specs.Zones.{IsNumbered, raw_lines_in};
 ghost use Rattle.rr_zone.specs.declared.event.EventFacts.{EventFacts};
 
 use crate::clock::Clock;
 use crate::clocks::Clocks;
-use crate::event::EventFacts;
+use crate::event::{EventFacts, Start};
 use crate::part::{Content, Part, parts_of, zones_in};
 use crate::rewritten::push_event;
-use crate::series::{SeriesZones, series_zones, turning_zone};
+use crate::series::{SeriesStarts, series_starts, turning_start};
 use crate::zone::{Zone, ZoneFault};
 use rr_events::{Piece, Segment, segments};
 use rr_ical::Sought;
@@ -36,7 +36,16 @@ fn needs_zone(alloc: Global, is_instance: bool, piece: Piece) -> Result<bool, No
 {
     let mut clock = Clock::new(alloc, Zone::new(alloc))?;
     let mut out = Vec::new(alloc);
-    push_event(alloc, &mut out, &mut clock, is_instance, piece)?;
+    let mut none = Clocks::new(alloc, Vec::new(alloc));
+    push_event(
+        alloc,
+        &mut out,
+        &mut clock,
+        &mut none,
+        Some(b""),
+        is_instance,
+        piece,
+    )?;
     Ok(out.as_slice() != piece.text)
 }
 
@@ -44,7 +53,7 @@ fn needs_zone(alloc: Global, is_instance: bool, piece: Piece) -> Result<bool, No
 fn unread_named<'a>(
     alloc: Global,
     clocks: &mut Clocks<'a>,
-    name: &'a [u8],
+    name: &[u8],
 ) -> Result<Option<UnreadZone>, NoMemory>
     ensures value { IfOk result (λ x. x ≡ unread_named clocks.old name.now) }
     ensures clocks { clocks.new ≡ clocks.old }
@@ -58,28 +67,41 @@ fn unread_named<'a>(
     }
 }
 
-// The zone that an event names, if it can't be read.
+// The zone of a start, if it has one that can't be read.
+fn unread_at<'a>(
+    alloc: Global,
+    clocks: &mut Clocks<'a>,
+    start: &Start,
+) -> Result<Option<UnreadZone>, NoMemory>
+    ensures value { IfOk result (λ x. x ≡ unread_at clocks.old start.now) }
+    ensures clocks { clocks.new ≡ clocks.old }
+{
+    match start {
+        Start::Zoned(name) => unread_named(alloc, clocks, name.as_slice()),
+        Start::Utc => Ok(None),
+        Start::Unzoned => Ok(None),
+    }
+}
+
+// The zone in which an event is written, if it can't be read.
 fn unread_by<'a>(
     alloc: Global,
     clocks: &mut Clocks<'a>,
-    series: &SeriesZones<'a>,
+    series: &SeriesStarts<'a>,
     event: &'a EventFacts,
 ) -> Result<Option<UnreadZone>, NoMemory>
     ensures value { (events : List EventFacts) → IsSeriesMap series.now events
         → IfOk result (λ x. x ≡ unread_by clocks.old events event.now) }
     ensures clocks { clocks.new ≡ clocks.old }
 {
-    match turning_zone(series, event) {
-        Some(name) => unread_named(alloc, clocks, name),
-        None => Ok(None),
-    }
+    unread_at(alloc, clocks, turning_start(series, event))
 }
 
 // The zone that an event needs, if it can't be read.
 fn unread_of_event<'a>(
     alloc: Global,
     clocks: &mut Clocks<'a>,
-    series: &SeriesZones<'a>,
+    series: &SeriesStarts<'a>,
     event: &'a EventFacts,
     piece: Piece,
 ) -> Result<Option<UnreadZone>, NoMemory>
@@ -99,7 +121,7 @@ fn unread_of_event<'a>(
 fn unread_of<'a>(
     alloc: Global,
     clocks: &mut Clocks<'a>,
-    series: &SeriesZones<'a>,
+    series: &SeriesStarts<'a>,
     part: &'a Part,
 ) -> Result<Option<UnreadZone>, NoMemory>
     requires { IsNumberedPart part.now }
@@ -128,7 +150,7 @@ fn put(found: &mut Vec<UnreadZone>, unread: Option<UnreadZone>) -> Result<(), No
 fn unread_in<'a>(
     alloc: Global,
     clocks: &mut Clocks<'a>,
-    series: &SeriesZones<'a>,
+    series: &SeriesStarts<'a>,
     parts: &'a [Part],
 ) -> Result<Vec<UnreadZone>, NoMemory>
     requires numbered { All IsNumberedPart parts.now }
@@ -149,7 +171,7 @@ fn unread_of_parts(alloc: Global, parts: &[Part]) -> Result<Vec<UnreadZone>, NoM
     requires { All IsNumberedPart parts.now }
     ensures { IfOk result (λ found. found.items ≡ unread_of_parts (map part_in parts.now)) }
 {
-    let series = series_zones(alloc, parts)?;
+    let series = series_starts(alloc, parts)?;
     let mut clocks = Clocks::new(alloc, zones_in(alloc, parts)?);
     unread_in(alloc, &mut clocks, &series, parts)
 }

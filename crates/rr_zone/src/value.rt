@@ -1,9 +1,15 @@
 // Values of lines with their moments of UTC in local time.
-ghost use Rattle.std.specs.Prelude.{◌≡◌, ◌+ℤ◌, ◌++◌, ◌∷◌, [], codes, IfOk, OnOk, Some};
+ghost use Rattle.std.specs.Prelude.{◌≡◌, ◌+ℤ◌, ◌++◌, ◌∷◌, [], codes, option_map, IfOk, IfSome, OnOk, Some};
 ghost use Rattle.rr_model.specs.Moment.Years.{IsInYears};
+ghost use Rattle.rr_model.specs.Text.Moments.{basic};
 ghost use Rattle.rr_model.specs.Text.RuleValues.{pieces};
+ghost use Rattle.rr_model.specs.Text.UsedLines.{trim};
+ghost use Rattle.rr_model.specs.Text.Written.{basic_text};
+ghost use Rattle.rr_model.specs.declared.kind.Kind.TheVariants.{Moments};
 ghost use Rattle.rr_text.specs.Appending.{Appends};
-ghost use Rattle.rr_zone.specs.Values.{IsWritable, behind_commas, date_as, in_years, local_dates, local_moment, local_part, local_rule, text_as, written, written_as, written_by};
+ghost use Rattle.rr_zone.specs.Values.{IsWritable, behind_commas, date_as, in_years, local_dates, local_moment, local_part, local_rule, text_as, utc_date, utc_text_as, utc_value, utc_written_by, written, written_as, written_by};
+ghost use Rattle.rr_zone.specs.Moments.{utc_moment};
+ghost use Rattle.rr_zone.specs.OtherZones.{if_all};
 ghost use Rattle.rr_zone.specs.Clocks.{local_time};
 
 use crate::clock::{Clock, LocalTime};
@@ -194,6 +200,104 @@ pub(crate) fn push_dates(
         rest = after;
     }
     push_date(alloc, out, clock, role, rest)
+}
+
+// How a date value that states this is written in UTC, if its moment can be told.
+fn utc_written_by(
+    alloc: Global,
+    clock: &mut Clock,
+    stamp: Stamp,
+) -> Result<Option<Written>, NoMemory>
+    requires { IsInYears stamp.kind stamp.at }
+    ensures value { IfOk result (λ x. x ≡ utc_written_by (utc_moment clock.old) (Some stamp)) }
+    ensures years { IfOk result (λ x. IfSome x IsWritable) }
+    ensures clock { clock.new ≡ clock.old }
+{
+    if !stamp.kind.is_same(Kind::Moments) || stamp.utc {
+        return Ok(Some(Written::Kept));
+    }
+    match clock.moment(alloc, stamp.at)? {
+        Some(at) => Ok(Some(Written::At(at))),
+        None => Ok(None),
+    }
+}
+
+// How a date value is written in UTC, if its moment can be told.
+fn utc_written(alloc: Global, clock: &mut Clock, text: &[u8]) -> Result<Option<Written>, NoMemory>
+    ensures value { IfOk result (λ x. x ≡ utc_written_by (utc_moment clock.old) (basic (trim text.now))) }
+    ensures years { IfOk result (λ x. IfSome x IsWritable) }
+    ensures clock { clock.new ≡ clock.old }
+{
+    match basic(trim(text)) {
+        Some(stamp) => utc_written_by(alloc, clock, stamp),
+        None => Ok(Some(Written::Kept)),
+    }
+}
+
+// A moment of UTC.
+fn push_utc(out: &mut Vec<u8>, at: i64) -> Result<(), NoMemory>
+    requires { IsInYears Moments at }
+    ensures { OnOk result (Appends out.old out.new (basic_text Moments at ++ codes "Z")) }
+{
+    push_basic(out, Kind::Moments, at)?;
+    out.push(b'Z')?;
+    Ok(())
+}
+
+// A date value that is written so in UTC.
+fn push_utc_text(out: &mut Vec<u8>, text: &[u8], written: Written) -> Result<(), NoMemory>
+    requires { IsWritable written }
+    ensures { OnOk result (Appends out.old out.new (utc_text_as text.now written)) }
+{
+    match written {
+        Written::At(at) => push_utc(out, at),
+        Written::Kept | Written::LeftOut => {
+            out.extend_from_slice(text)?;
+            Ok(())
+        }
+    }
+}
+
+// A date value in UTC, and whether its moment can be told.
+fn push_utc_date(
+    alloc: Global,
+    out: &mut Vec<u8>,
+    clock: &mut Clock,
+    text: &[u8],
+) -> Result<bool, NoMemory>
+    ensures value { IfOk result (λ is. if_all is out.new.items
+        ≡ option_map (λ date. out.old.items ++ date) (utc_date (utc_moment clock.old) text.now)) }
+    ensures clock { clock.new ≡ clock.old }
+{
+    match utc_written(alloc, clock, text)? {
+        Some(written) => {
+            push_utc_text(out, text, written)?;
+            Ok(true)
+        }
+        None => Ok(false),
+    }
+}
+
+/// The date values between commas in UTC, and whether the moments of all can be told. Otherwise the text is in pieces.
+pub(crate) fn push_utc_value(
+    alloc: Global,
+    out: &mut Vec<u8>,
+    clock: &mut Clock,
+    text: &[u8],
+) -> Result<bool, NoMemory>
+    ensures value { IfOk result (λ is. if_all is out.new.items
+        ≡ option_map (λ new. out.old.items ++ new) (utc_value (utc_moment clock.old) text.now)) }
+    ensures clock { clock.new ≡ clock.old }
+{
+    let mut rest = text;
+    while let Some((piece, after)) = split_once(rest, b',') {
+        if !push_utc_date(alloc, out, clock, piece)? {
+            return Ok(false);
+        }
+        out.push(b',')?;
+        rest = after;
+    }
+    push_utc_date(alloc, out, clock, rest)
 }
 
 // UNTIL in local time.

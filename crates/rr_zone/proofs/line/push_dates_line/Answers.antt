@@ -7,6 +7,6 @@ use Rattle.rr_zone.proofs.line.push_dates_line.Goals as goal
 
 pub returns-clause-value : goal.returns-clause-value
 returns-clause-value c =
-    dates_put c.push_behind_front.result c.args.front.now c.args.out.now.items c.push_behind_front.new.out.items c.as_slice.result.now
+    dates_put c.args.front.now c.args.value.now c.push_behind_front.result c.args.out.now.items c.push_behind_front.new.out.items c.as_slice.result.now
     (local_dates (local_time c.args.clock.now) c.args.role (pieces 44 c.args.value.now))
     (rw (c.as_slice.ensures.value, c.in_ok-push_dates.ensures.value, c.new-dates.ensures.items) refl) c.push_behind_front.ensures

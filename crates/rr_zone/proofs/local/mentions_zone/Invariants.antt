@@ -2,8 +2,8 @@ use Rattle.std.proofs.Common.{◌≡◌, length}
 use Rattle.rr_zone.specs.Local.{mentions_zone}
 use Rattle.rr_zone.proofs.local.mentions_zone.Given as goal
 
-abbrev pub invariant-loop-rest : goal.invariant-loop-rest
-invariant-loop-rest l = mentions_zone l.rest ≡ mentions_zone l.text
+abbrev pub invariant-loop-index : goal.invariant-loop-index
+invariant-loop-index l = mentions_zone l.rest ≡ mentions_zone l.text
 
-abbrev pub decreases-loop-rest : goal.decreases-loop-rest
-decreases-loop-rest l = length l.rest
+abbrev pub decreases-loop-index : goal.decreases-loop-index
+decreases-loop-index l = length l.rest

@@ -1,14 +1,13 @@
 use Rattle.std.proofs.Common.{◌∙◌}
 use Rattle.rr_events.proofs.LineLemmas.{cut-of}
 use Rattle.rr_events.proofs.SegmentLemmas.{few-more}
-use Rattle.rr_zone.specs.Clocks.{local_time}
-use Rattle.rr_zone.proofs.RewrittenLemmas.{event-fault, event-more}
+use Rattle.rr_zone.proofs.RewrittenLemmas.{event-fault, event-more, line}
 use Rattle.rr_zone.proofs.rewritten.push_event.Goals as goal
 
 pub returns-in-Err-Refused-clause-value : goal.returns-in-Err-Refused-clause-value
 returns-in-Err-Refused-clause-value c =
     let cut = cut-of c.loop-names.rest.first c.loop-names.rest.text.now _ c.in-Some.cut c.in-Some.is c.in_ok-cut.ensures in
-    event-fault (local_time c.args.clock.now) c.args.is_instance c.loop-names.names c.loop-names.rest
+    event-fault (line c.args.clock.now c.args.others.now c.args.name c.args.is_instance) c.loop-names.names c.loop-names.rest
     (record { text = c.in-Some.cut.after; first = c.in-Some.cut.next }) c.in-Some.cut.line c.in-Err-Refused.field-0-0 c.loop-names.out.items
     c.extend_from_slice.new.self.items _ cut (rw c.in-Err-Refused.field-0-is at c.in-Err-Refused.ensures)
     c.in_ok-extend_from_slice-in-Err-Refused.ensures.items c.loop-names.invariant.so_far
@@ -17,11 +16,12 @@ pub loop-names-preserved : goal.loop-names-preserved
 loop-names-preserved c =
     let cut = cut-of c.loop-names.rest.first c.loop-names.rest.text.now _ c.in-Some.cut c.in-Some.is c.in_ok-cut.ensures in record {
       so_far =
-          event-more (local_time c.args.clock.now) c.args.is_instance c.loop-names.names c.own_step.new.names c.loop-names.rest
+          event-more (line c.args.clock.now c.args.others.now c.args.name c.args.is_instance) c.loop-names.names c.own_step.new.names c.loop-names.rest
           (record { text = c.in-Some.cut.after; first = c.in-Some.cut.next }) c.in-Some.cut.line c.in-Ok.is_own c.loop-names.out.items
-          c.push_cut.new.out.items _ cut c.in-Ok.ensures.0 c.in-Ok.ensures.1 (rw c.loop-names.invariant.clock at c.in_ok-push_cut-in-Ok.ensures.value)
+          c.push_cut.new.out.items _ cut c.in-Ok.ensures.0 c.in-Ok.ensures.1 (rw (c.loop-names.invariant.clock, c.loop-names.invariant.others) at c.in_ok-push_cut-in-Ok.ensures.value)
           c.loop-names.invariant.so_far;
       clock = c.in_ok-push_cut-in-Ok.ensures.clock ∙ c.loop-names.invariant.clock;
+      others = c.in_ok-push_cut-in-Ok.ensures.others ∙ c.loop-names.invariant.others;
       few =
           few-more c.args.piece c.loop-names.rest (record { text = c.in-Some.cut.after; first = c.in-Some.cut.next }) c.in-Some.cut.line cut
           c.loop-names.invariant.few;
