@@ -2,6 +2,7 @@
 use Rattle.std.specs.Prelude.{◌≡◌, ℕ, List, Result, Ok, Err, ⊤}
 use Rattle.rr_model.specs.Series.Validity.{IsValidSeries}
 use Rattle.rr_model.specs.declared.rule.Series.{Series}
+use Rattle.rr_seam.specs.Words.{Words}
 use Rattle.rr_seam.specs.declared.file.KeySeries.{KeySeries}
 use Rattle.rr_seam.specs.declared.key.Key.{Key}
 use Rattle.rr_seam.specs.declared.refusal.KeyFault.{KeyFault}
@@ -9,20 +10,22 @@ use Rattle.rr_seam.specs.declared.refusal.KeyFault.TheVariants as key_fault
 use Rattle.rr_seam.specs.declared.refusal.KeyRefusal.{KeyRefusal}
 
 -- What the events of a key state together: their series with its instances as dates, or why they are refused; the place at which a
--- limit refuses that series; and the names of their zones.
+-- limit refuses that series; the names of their zones; and the words in which they state it.
 pub record Stated : Type 0 where
   pub series : Result Series KeyRefusal
   pub place : ℕ
   pub zones : List (List ℕ)
+  pub words : Words
 
--- A calendar: the keys of its events in their order, and by the indexes of events what they state together.
+-- A calendar: the keys of its events in their order, by the indexes of events what they state together, and the title of each event.
 pub record Calendar : Type 0 where
   pub keys : List Key
   pub stated : List ℕ → Stated
+  pub titles : ℕ → List ℕ
 
--- the calendar of these keys, whose events state this
-abbrev pub calendar_by : List Key → (List ℕ → Stated) → Calendar
-calendar_by keys stated = record { keys = keys; stated = stated }
+-- the calendar of these keys, whose events state this and have these titles
+abbrev pub calendar_by : List Key → (List ℕ → Stated) → (ℕ → List ℕ) → Calendar
+calendar_by keys stated titles = record { keys = keys; stated = stated; titles = titles }
 
 -- a valid series is stated, with these zones, and is refused by limits at this place
 pub record IsKeyStated (stated : Stated) (key : KeySeries) : Type 0 where

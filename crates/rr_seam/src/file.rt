@@ -5,6 +5,7 @@ ghost use Rattle.rr_seam.specs.declared.key.Key.{Key as KeyValue};
 
 use crate::key::Key;
 use crate::refusal::KeyFault;
+use crate::words::KeyWords;
 use rr_model::{Bytes, NoMemory, Series};
 use std::alloc::Global;
 
@@ -68,6 +69,9 @@ pub trait EventFile {
     /// What the events of these indexes state together.
     ghost stated: { Self → List ℕ → Stated };
 
+    /// The title of the event of an index, empty if it has none.
+    ghost titles: { Self → ℕ → List ℕ };
+
     /// How many events it has.
     fn count(&self) -> usize
         ensures { result ≡ length (keys self.now) };
@@ -80,4 +84,12 @@ pub trait EventFile {
     /// What the events of these indexes state together; an index beyond the last event adds nothing.
     fn key_series(&self, alloc: Global, indexes: &[usize]) -> Result<KeySeries, KeyFault>
         ensures { AnswersStated (stated self.now indexes.now) result };
+
+    /// The words in which they state it: the lines that decide, whether a reader takes them or not.
+    fn key_words(&self, alloc: Global, indexes: &[usize]) -> Result<KeyWords, NoMemory>
+        ensures { IfOk result (λ words. words ≡ (stated self.now indexes.now).words) };
+
+    /// The title of an event, empty if it has none (RFC 5545, section 3.8.1.12; Microsoft Graph, event, subject).
+    fn title(&self, alloc: Global, index: usize) -> Result<Bytes, NoMemory>
+        ensures { IfOk result (λ title. title ≡ titles self.now index) };
 }
