@@ -102,6 +102,7 @@ calendar_read offset bytes pieces h = record {
   reads = ap (calendar_by_events offset) h;
   keys = refl;
   stated = λ indexes. refl;
+  titles = λ index. refl;
 }
 
 pub calendar_refused : (offset : Option ℤ) (bytes : List ℕ) (f : FileFault) → AnswersFile bytes (Err f)

@@ -12,10 +12,12 @@ use Rattle.rr_model.specs.declared.refusal.Refusal.{Refusal}
 use Rattle.rr_model.specs.declared.used.Scan.{Scan}
 use Rattle.rr_events.specs.Cutting.{full_lines, has_text}
 use Rattle.rr_ical.specs.Components.{open_after}
-use Rattle.rr_events.specs.Own.{first_named, own_line, own_lines, value_or_empty}
+use Rattle.rr_events.specs.Own.{first_named, first_value, own_line, own_lines, value_or_empty}
 use Rattle.rr_icalfile.specs.Event.{event_by, event_of, is_cancelled, is_component_line, is_unread, recurrence_of, recurrence_on, used_in}
 use Rattle.rr_icalfile.specs.Keys.{first_line}
-use Rattle.rr_icalfile.specs.Zones.{date_zones, event_zones, event_zones_by, start_zone, zone_on}
+use Rattle.rr_icalfile.specs.Taken.{series_words, series_words_of}
+use Rattle.rr_icalfile.specs.Words.{cancelled_words, event_words, line_words, title_of, unescaped, words_of}
+use Rattle.rr_icalfile.specs.Zones.{date_zones, event_zones, event_zones_by, series_zones, start_zone, zone_on}
 
 -- ---- one empty line
 
@@ -217,3 +219,37 @@ event_full lines =
     ∙ ap (λ (b : Bool). event_by (first_line lines) (used_in b full) less) (unread-less own)
     ∙ ap (λ (s : Scan). event_by (first_line lines) s less) (used_full (is_unread own) lines)
     ∙ event-less (first_line lines) (used_in (is_unread own) lines) own
+
+-- ---- its words and its title
+
+empty-words : (number : ℕ) → line_words (empty number) ≡ []
+empty-words number = refl
+
+words-by : (line : Line) (own : List Line) → flat_map line_words (filter has_text own) ≡ flat_map line_words own → (b : Bool) → has_text line ≡ b
+    → flat_map line_words (cond b (line ∷ filter has_text own) (filter has_text own)) ≡ flat_map line_words (line ∷ own)
+words-by line own more true h = ap (λ (ws : List (List ℕ)). line_words line ++ ws) more
+words-by line own more false h =
+    more ∙ ap (λ (ws : List (List ℕ)). ws ++ flat_map line_words own) (sym (ap line_words (is_empty line h) ∙ empty-words line.number))
+
+words-less : (own : List Line) → flat_map line_words (filter has_text own) ≡ flat_map line_words own
+words-less [] = refl
+words-less (line ∷ own) = words-by line own (words-less own) (has_text line) refl
+
+pub words_full : (lines : List Line) → event_words (full_lines lines) ≡ event_words lines
+words_full lines =
+    let own = own_lines [] lines in ap words_of (own-full lines) ∙ (λ i. words-less own i ++ cancelled_words (cancelled-less own i))
+
+pub title_full : (lines : List Line) → title_of (full_lines lines) ≡ title_of lines
+title_full lines =
+    ap (λ (own : List Line). unescaped false (first_value (codes "SUMMARY") own)) (own-full lines)
+    ∙ ap (λ (line : Option Line). unescaped false (value_or_empty (option_and_then (λ (l : Line). value_of_line l.text) line)))
+    (first-less (codes "SUMMARY") refl (own_lines [] lines))
+
+pub series_words_full : (lines : List Line) → series_words (full_lines lines) ≡ series_words lines
+series_words_full lines =
+    let own = own_lines [] lines in
+    ap series_words_of (own-full lines)
+    ∙ (λ i. if not (is_some (recurrence-less own i)) then Some (words-less own i ++ cancelled_words (cancelled-less own i)) else None)
+
+pub series_zones_full : (lines : List Line) → series_zones (own_lines [] (full_lines lines)) ≡ series_zones (own_lines [] lines)
+series_zones_full lines = let own = own_lines [] lines in ap series_zones (own-full lines) ∙ (λ i. start-less own i ∷ zones-less own i)

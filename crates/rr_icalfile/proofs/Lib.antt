@@ -4,5 +4,7 @@ mod EditStepLemmas
 mod EditedLemmas
 mod OccursLemmas
 mod FileLemmas
+mod TakenLemmas
+mod UnreadLemmas
 mod StatedLemmas
 mod Examples

@@ -1,13 +1,16 @@
 -- The calendar that an iCalendar text is (RFC 5545, sections 3.4 and 3.6.1).
-use Rattle.std.specs.Prelude.{ℕ, ℤ, List, [], ◌∷◌, ◌++◌, map, flat_map, slice_get, Option, None, Some, option_map, option_to_list, Result, Ok, Err}
+use Rattle.std.specs.Prelude.{ℕ, ℤ, List, [], ◌∷◌, ◌++◌, map, flat_map, slice_get, Option, None, Some, option_map, option_to_list, unwrap_or, Result, Ok, Err}
 use Rattle.rr_model.specs.declared.line.Line.{Line}
-use Rattle.rr_seam.specs.Stated.{Calendar, Stated}
+use Rattle.rr_seam.specs.Stated.{Calendar, Stated, calendar_by}
+use Rattle.rr_seam.specs.Words.{Words}
 use Rattle.rr_seam.specs.declared.file.FileRefusal.{FileRefusal}
 use Rattle.rr_seam.specs.declared.refusal.KeyRefusal.{KeyRefusal}
+use Rattle.rr_seam.specs.declared.words.Language.TheVariants.{Ics}
 use Rattle.rr_icalfile.specs.Edited.{KeyEvents, first_number, key_events, series_of_events}
-use Rattle.rr_icalfile.specs.Event.{event_of}
 use Rattle.rr_icalfile.specs.Files.{file_events}
 use Rattle.rr_icalfile.specs.Keys.{key_of}
+use Rattle.rr_icalfile.specs.Taken.{taken}
+use Rattle.rr_icalfile.specs.Words.{event_words, title_of}
 use Rattle.rr_icalfile.specs.declared.event.Event.{Event}
 
 -- ---- the place of a refusal by a limit
@@ -45,28 +48,34 @@ zones_by_events (Err r) = []
 
 -- ---- the calendar
 
--- what events state together
-abbrev pub stated_by : Option ℤ → List Event → Stated
-stated_by offset events = record {
-  series = series_of_events offset events;
-  place = line_of (key_events events);
-  zones = zones_by_events (key_events events);
+-- the words of events
+abbrev pub words_in : List (List Line) → Words
+words_in texts = record { language = Ics; events = map event_words texts }
+
+-- what events state together, each by its lines
+abbrev pub stated_by : Option ℤ → List (List Line) → Stated
+stated_by offset texts = record {
+  series = series_of_events offset (taken texts);
+  place = line_of (key_events (taken texts));
+  zones = zones_by_events (key_events (taken texts));
+  words = words_in texts;
 }
 
--- the event of an index, if there is one, by the lines of each event of the text
-abbrev pub event_at : List (List Line) → ℕ → List Event
-event_at texts index = option_to_list (option_map event_of (slice_get texts index))
+-- the lines of the event of an index, if there is one, by the lines of each event of the text
+abbrev pub text_at : List (List Line) → ℕ → List (List Line)
+text_at texts index = option_to_list (slice_get texts index)
 
--- the events of indexes
-abbrev pub events_at : List (List Line) → List ℕ → List Event
-events_at texts indexes = flat_map (event_at texts) indexes
+-- the lines of the events of indexes
+abbrev pub texts_at : List (List Line) → List ℕ → List (List Line)
+texts_at texts indexes = flat_map (text_at texts) indexes
+
+-- the title of the event of an index, empty without one
+abbrev pub title_at : List (List Line) → ℕ → List ℕ
+title_at texts index = unwrap_or (option_map title_of (slice_get texts index)) []
 
 -- the calendar of a text by the lines of each of its events, beside a stated offset
 abbrev pub calendar_of : Option ℤ → List (List Line) → Calendar
-calendar_of offset texts = record {
-  keys = map key_of texts;
-  stated = λ indexes. stated_by offset (events_at texts indexes);
-}
+calendar_of offset texts = calendar_by (map key_of texts) (λ indexes. stated_by offset (texts_at texts indexes)) (title_at texts)
 
 -- what is read of a file: a stated offset, and the lines of each of its events
 pub record EventTexts : Type 0 where

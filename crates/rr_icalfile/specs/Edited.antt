@@ -45,7 +45,7 @@ judged_instance (Some recurrence) event =
     if recurrence.has_range then Err (refusal.Range recurrence.line)
     else (if has_rule_or_date event.scan then Err (refusal.TwoSeries event.first) else Ok tt)
 
--- the events of a key with a series; a second series is refused
+-- the events of a key with a series; a second series is refused, and one that states the first again is not taken
 abbrev pub with_series : KeyEvents → Event → Result KeyEvents KeyRefusal
 with_series events event =
     if is_some events.series then Err (refusal.TwoSeries event.first) else Ok (record events { series = Some event })

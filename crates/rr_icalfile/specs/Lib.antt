@@ -1,7 +1,11 @@
 pub mod Keys
 pub mod Zones
 pub mod Event
+pub mod Words
+pub mod Parts
+pub mod Taken
 pub mod Files
 pub mod Edited
 pub mod Instances
+pub mod Unread
 pub mod Calendar

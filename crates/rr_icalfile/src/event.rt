@@ -50,8 +50,8 @@ fn recurrence_on(alloc: Global, line: &Line) -> Result<Recurrence, NoMemory>
     })
 }
 
-// The RECURRENCE-ID among the lines of an event.
-fn recurrence_of(alloc: Global, own: &[&Line]) -> Result<Option<Recurrence>, NoMemory>
+/// The RECURRENCE-ID among the own lines of an event.
+pub(crate) fn recurrence_of(alloc: Global, own: &[&Line]) -> Result<Option<Recurrence>, NoMemory>
     ensures { IfOk result (λ recurrence. recurrence
         ≡ recurrence_of (map (λ line. line.now) own.now)) }
 {
@@ -61,8 +61,8 @@ fn recurrence_of(alloc: Global, own: &[&Line]) -> Result<Option<Recurrence>, NoM
     }
 }
 
-// Whether the STATUS among the lines of an event is CANCELLED (RFC 5545, section 3.8.1.11).
-fn is_cancelled(own: &[&Line]) -> bool
+/// Whether the STATUS among the own lines of an event is CANCELLED (RFC 5545, section 3.8.1.11).
+pub(crate) fn is_cancelled(own: &[&Line]) -> bool
     ensures { result ≡ is_cancelled (map (λ line. line.now) own.now) }
 {
     first_value(b"STATUS", own).eq_ignore_ascii_case(b"CANCELLED")

@@ -7,11 +7,11 @@ ghost use Rattle.rr_icalfile.specs.Files.{AnswersFile, IsNumberedPiece, file_fau
 ghost use Rattle.rr_icalfile.specs.Keys.{key_of};
 
 use crate::key::key_of;
-use crate::stated::state_key;
+use crate::stated::{state_key, title_at, words_at};
 use rr_events::{Piece, cut_line, find_events};
 use rr_ical::is_named;
-use rr_model::{Fault, NoMemory, Refusal};
-use rr_seam::{EventFile, FileFault, FileRefusal, Key, KeyFault, KeySeries, MAX_FILE};
+use rr_model::{Bytes, Fault, NoMemory, Refusal};
+use rr_seam::{EventFile, FileFault, FileRefusal, Key, KeyFault, KeySeries, KeyWords, MAX_FILE};
 use rr_text::without_mark;
 use std::alloc::Global;
 use std::marker::Model;
@@ -114,6 +114,8 @@ impl<'a> EventFile for IcalFile<'a> {
 
     ghost stated = { λ f. (calendar_in f).stated };
 
+    ghost titles = { λ f. (calendar_in f).titles };
+
     fn count(&self) -> usize {
         self.pieces.len()
     }
@@ -124,5 +126,13 @@ impl<'a> EventFile for IcalFile<'a> {
 
     fn key_series(&self, alloc: Global, indexes: &[usize]) -> Result<KeySeries, KeyFault> {
         state_key(alloc, self.offset, self.pieces.as_slice(), indexes)
+    }
+
+    fn key_words(&self, alloc: Global, indexes: &[usize]) -> Result<KeyWords, NoMemory> {
+        words_at(alloc, self.pieces.as_slice(), indexes)
+    }
+
+    fn title(&self, alloc: Global, index: usize) -> Result<Bytes, NoMemory> {
+        title_at(alloc, self.pieces.as_slice(), index)
     }
 }

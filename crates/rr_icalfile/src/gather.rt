@@ -74,8 +74,8 @@ fn with_event(gathered: Gathered, event: Event) -> Result<Gathered, KeyFault>
 
 /// The series and the instances of the events of one key, in their order.
 ///
-/// `Range` comes for a RECURRENCE-ID with a RANGE parameter, `TwoSeries` for a second event without a RECURRENCE-ID and for
-/// an instance with RRULE or RDATE that is not cancelled.
+/// `Range` comes for a RECURRENCE-ID with a RANGE parameter, `TwoSeries` for a second event without a RECURRENCE-ID, unless
+/// it states the first again, and for an instance with RRULE or RDATE that is not cancelled and not alone.
 pub fn gather(alloc: Global, events: Vec<Event>) -> Result<Gathered, KeyFault>
     ensures { AnswersKey (key_events events.items) result }
 {

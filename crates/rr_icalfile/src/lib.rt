@@ -8,9 +8,15 @@ mod file;
 mod gather;
 mod key;
 mod laws;
+mod part;
 mod series;
 mod stated;
+mod taken;
+mod title;
+mod unread;
+mod words;
 mod zone;
 
 pub use file::IcalFile;
 pub use laws::events_occur;
+pub use unread::{Unread, unread_components};

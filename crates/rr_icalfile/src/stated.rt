@@ -2,48 +2,22 @@
 ghost use Rattle.std.specs.Prelude.{◌≡◌, ◌++◌, map, All, IfOk, OnOk};
 ghost use Rattle.rr_events.specs.Finding.{lines_in};
 ghost use Rattle.rr_seam.specs.Stated.{AnswersStated};
-ghost use Rattle.rr_icalfile.specs.Calendar.{event_at, events_at, first_of, stated_by, zones_in, zones_of_all};
+ghost use Rattle.rr_icalfile.specs.Calendar.{first_of, stated_by, text_at, texts_at, title_at, words_in, zones_in, zones_of_all};
 ghost use Rattle.rr_icalfile.specs.Files.{IsNumberedPiece};
+ghost use Rattle.rr_icalfile.specs.Words.{event_words};
 
 use crate::alone::first_number;
-use crate::event::{Event, read_event};
+use crate::event::Event;
 use crate::gather::{Gathered, gather};
 use crate::series::series_with_instances;
+use crate::taken::taken_at;
+use crate::title::read_title;
+use crate::words::read_words;
 use crate::zone::ZoneList;
 use rr_events::Piece;
-use rr_model::NoMemory;
-use rr_seam::{KeyFault, KeySeries};
+use rr_model::{Bytes, NoMemory};
+use rr_seam::{EventWords, KeyFault, KeySeries, KeyWords, Language};
 use std::alloc::Global;
-
-// Puts the event of an index, if there is one.
-fn put_event(
-    alloc: Global,
-    events: &mut Vec<Event>,
-    pieces: &[Piece],
-    index: usize,
-) -> Result<(), NoMemory>
-    requires { All IsNumberedPiece pieces.now }
-    ensures { OnOk result (events.new.items
-        ≡ events.old.items ++ event_at (map lines_in pieces.now) index) }
-{
-    if let Some(piece) = pieces.get(index) {
-        events.push(read_event(alloc, *piece)?)?;
-    }
-    Ok(())
-}
-
-// The events of indexes; one beyond the last event adds nothing.
-fn events_at(alloc: Global, pieces: &[Piece], indexes: &[usize]) -> Result<Vec<Event>, NoMemory>
-    requires { All IsNumberedPiece pieces.now }
-    ensures { IfOk result (λ events. events.items
-        ≡ events_at (map lines_in pieces.now) indexes.now) }
-{
-    let mut events = Vec::new(alloc);
-    for index in indexes {
-        put_event(alloc, &mut events, pieces, *index)?;
-    }
-    Ok(events)
-}
 
 // Puts the zones of several events.
 fn put_all_zones(alloc: Global, zones: &mut ZoneList, events: &[Event]) -> Result<(), NoMemory>
@@ -86,9 +60,9 @@ pub(crate) fn state_key(
 ) -> Result<KeySeries, KeyFault>
     requires { All IsNumberedPiece pieces.now }
     ensures { AnswersStated
-        (stated_by offset (events_at (map lines_in pieces.now) indexes.now)) result }
+        (stated_by offset (texts_at (map lines_in pieces.now) indexes.now)) result }
 {
-    let listed = events_at(alloc, pieces, indexes)?;
+    let listed = taken_at(alloc, pieces, indexes)?;
     let events = gather(alloc, listed)?;
     let zones = zones_of(alloc, &events)?;
     let series = series_with_instances(alloc, offset, &events)?;
@@ -97,4 +71,49 @@ pub(crate) fn state_key(
         zones: zones.into_items(),
         place: first_of(&events),
     })
+}
+
+// Puts the words of the event of an index, if there is one.
+fn put_words(
+    alloc: Global,
+    words: &mut Vec<EventWords>,
+    pieces: &[Piece],
+    index: usize,
+) -> Result<(), NoMemory>
+    requires { All IsNumberedPiece pieces.now }
+    ensures { OnOk result (words.new.items
+        ≡ words.old.items ++ map event_words (text_at (map lines_in pieces.now) index)) }
+{
+    if let Some(piece) = pieces.get(index) {
+        words.push(read_words(alloc, *piece)?)?;
+    }
+    Ok(())
+}
+
+/// The words of the events of indexes, each read anew; one beyond the last event adds nothing.
+pub(crate) fn words_at(
+    alloc: Global,
+    pieces: &[Piece],
+    indexes: &[usize],
+) -> Result<KeyWords, NoMemory>
+    requires { All IsNumberedPiece pieces.now }
+    ensures { IfOk result (λ words. words
+        ≡ words_in (texts_at (map lines_in pieces.now) indexes.now)) }
+{
+    let mut words = Vec::new(alloc);
+    for index in indexes {
+        put_words(alloc, &mut words, pieces, *index)?;
+    }
+    Ok(KeyWords::of(Language::Ics, words))
+}
+
+/// The title of the event of an index, empty without one.
+pub(crate) fn title_at(alloc: Global, pieces: &[Piece], index: usize) -> Result<Bytes, NoMemory>
+    requires { All IsNumberedPiece pieces.now }
+    ensures { IfOk result (λ title. title ≡ title_at (map lines_in pieces.now) index) }
+{
+    match pieces.get(index) {
+        Some(piece) => read_title(alloc, *piece),
+        None => Ok(Bytes::new(alloc)),
+    }
 }

@@ -1,8 +1,10 @@
 // In which zones the lines of an event state their moments (RFC 5545, sections 3.2.19 and 3.3.5).
-ghost use Rattle.std.specs.Prelude.{◌≡◌, [], ◌∷◌, ◌++◌, flat_map, map, option_map, option_to_list, IfOk, OnOk};
+ghost use Rattle.std.specs.Prelude.{◌≡◌, ◌<◌, ◌+◌, [], ◌∷◌, ◌++◌, ◌^◌, flat_map, length, map, option_map, option_to_list, IfOk, OnOk};
+ghost use Rattle.rr_events.specs.Finding.{lines_in};
+ghost use Rattle.rr_events.specs.Own.{own_lines};
 ghost use Rattle.rr_icalfile.specs.Zones.{date_zones, event_zones, has_moment, has_utc, instance_zones, series_zones, start_zone, states_dates, states_moment, states_utc, value_on, zone_on};
 
-use rr_events::{first_named, parameter_of};
+use rr_events::{Piece, first_named, full_lines, own_lines, parameter_of};
 use rr_ical::{line_kind, value_of_line};
 use rr_model::{Bytes, Kind, Line, LineKind, LineName, NoMemory};
 use rr_text::{basic, trim};
@@ -211,4 +213,15 @@ pub(crate) fn event_zones(
         None => series_zones(alloc, own),
         Some(recurrence) => instance_zones(alloc, is_cancelled, recurrence, own),
     }
+}
+
+/// Reads the zones of the event of a piece as of a series.
+#[tactic(auto, using(crate::proofs::FullLemmas::series_zones_full))]
+pub(crate) fn read_series_zones(alloc: Global, piece: Piece) -> Result<ZoneList, NoMemory>
+    requires { piece.first + length piece.text.now < 2 ^ 64 }
+    ensures { IfOk result (λ zones. zones ≡ series_zones (own_lines [] (lines_in piece.entry))) }
+{
+    let lines = full_lines(alloc, piece)?;
+    let own = own_lines(alloc, lines.as_slice())?;
+    series_zones(alloc, &own)
 }

@@ -1,5 +1,5 @@
 -- The calendar of a file.
-use Rattle.std.proofs.Common.{◌≡◌, ℕ, ℤ, List, length, nat_lt, map, Bool, true, false, cond, Option, Ok, Err, sym, ap, ◌∙◌}
+use Rattle.std.proofs.Common.{◌≡◌, ℕ, ℤ, List, length, nat_lt, map, Bool, true, false, cond, Option, Ok, Err, refl, sym, ap, ◌∙◌}
 use Rattle.rr_model.specs.Text.Lines.{without_mark}
 use Rattle.rr_seam.specs.Files.{AnswersCalendar}
 use Rattle.rr_seam.specs.declared.file.FileFault.{FileFault}
@@ -25,6 +25,7 @@ calendar_read offset bytes file is reads keys = record {
   reads = ap (calendar_or offset) reads;
   keys = keys;
   stated = λ indexes. ap (λ (o : Option ℤ). stated_in o (map lines_in file.parts.items) indexes) is;
+  titles = λ index. refl;
 }
 
 pub calendar_refused : (offset : Option ℤ) (bytes : List ℕ) (fault : FileFault) → AnswersEvents (file_events bytes) (Err fault)

@@ -1,3 +1,4 @@
 mod BeginLemmas
 mod PartLemmas
 mod FileLemmas
+mod WordsLemmas

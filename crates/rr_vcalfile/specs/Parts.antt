@@ -1,5 +1,5 @@
 -- The events of a vCalendar 1.0 text as parts of it.
-use Rattle.std.specs.Prelude.{◌≡◌, ◌+◌, ◌<◌, ◌^◌, List, length, map, Option, option_map, Vec, Result, Ok, Err, ⊤}
+use Rattle.std.specs.Prelude.{◌≡◌, ◌+◌, ◌<◌, ◌^◌, List, length, map, Vec, Result, Ok, Err, ⊤}
 use Rattle.std.specs.Global.{Global}
 use Rattle.rr_model.specs.declared.line.Line.{Line}
 use Rattle.rr_model.specs.declared.refusal.Fault.{Fault}
@@ -8,9 +8,6 @@ use Rattle.rr_events.specs.declared.segment.Segment.{Segment}
 use Rattle.rr_seam.specs.declared.file.FileFault.{FileFault}
 use Rattle.rr_seam.specs.declared.file.FileFault.TheVariants as file_fault
 use Rattle.rr_seam.specs.declared.file.FileRefusal.{FileRefusal}
-use Rattle.rr_seam.specs.declared.refusal.KeyFault.{KeyFault}
-use Rattle.rr_seam.specs.declared.refusal.KeyFault.TheVariants as key_fault
-use Rattle.rr_seam.specs.declared.refusal.KeyRefusal.{KeyRefusal}
 use Rattle.rr_vcalfile.specs.Events.{component_refusal, kept_lines}
 use Rattle.rr_vcalfile.specs.declared.part.Part.{Part}
 
@@ -32,9 +29,3 @@ abbrev pub AnswersEvents : Result (List (List Line)) FileRefusal → Result (Vec
 AnswersEvents wanted (Ok parts) = wanted ≡ Ok (map lines_in parts.items)
 AnswersEvents wanted (Err (file_fault.Refused r)) = wanted ≡ Err r
 AnswersEvents wanted (Err file_fault.NoMemory) = ⊤
-
--- the part is the event that is gathered, or the fault is its refusal; out of memory may come in place of each
-abbrev pub AnswersGathered : Result (Option (List Line)) KeyRefusal → Result (Option Part) KeyFault → Type 0
-AnswersGathered wanted (Ok part) = wanted ≡ Ok (option_map lines_in part)
-AnswersGathered wanted (Err (key_fault.Refused r)) = wanted ≡ Err r
-AnswersGathered wanted (Err key_fault.NoMemory) = ⊤

@@ -1,5 +1,5 @@
 -- What the events of a key state in a vCalendar 1.0 text.
-use Rattle.std.specs.Prelude.{ℕ, Bool, false, if◌then◌else◌, ℤ, List, [], ◌∷◌, codes, map, option_map, slice_get, unwrap_or, Option, None, Some, Result, Ok, Err}
+use Rattle.std.specs.Prelude.{ℕ, Bool, false, if◌then◌else◌, ℤ, List, [], ◌∷◌, codes, flat_map, map, option_map, option_to_list, slice_get, unwrap_or, Option, None, Some, Result, Ok, Err}
 use Rattle.rr_model.specs.Text.Event.{no_components, scan_of}
 use Rattle.rr_model.specs.Text.Moments.{basic}
 use Rattle.rr_model.specs.Text.UsedLines.{trim}
@@ -11,12 +11,14 @@ use Rattle.rr_model.specs.declared.stamp.Stamp.{Stamp}
 use Rattle.rr_model.specs.declared.vcal.VSeries.{VSeries}
 use Rattle.rr_events.specs.Own.{first_value, own_lines}
 use Rattle.rr_vcal.specs.Scans.{vcal_scan}
-use Rattle.rr_seam.specs.Stated.{Calendar, Stated}
+use Rattle.rr_seam.specs.Stated.{Calendar, Stated, calendar_by}
 use Rattle.rr_seam.specs.Steps.{◌>=>◌, at_event, key_in_turn}
+use Rattle.rr_seam.specs.Words.{are_same_lines}
 use Rattle.rr_seam.specs.declared.key.Key.{Key}
 use Rattle.rr_seam.specs.declared.key.Key.TheVariants as key
 use Rattle.rr_seam.specs.declared.refusal.KeyRefusal.{KeyRefusal}
 use Rattle.rr_seam.specs.declared.refusal.KeyRefusal.TheVariants as refusal
+use Rattle.rr_vcalfile.specs.Words.{event_words, title_of, words_in}
 
 -- ---- one event
 
@@ -52,10 +54,11 @@ zone_of event = if states_utc (first_value (codes "DTSTART") (own_lines [] event
 
 -- ---- the events of a key
 
--- a second event of a key is refused: this language has no instances
+-- a second event of a key is refused, unless it states the first again: this language has no instances
 abbrev pub with_event : Option (List Line) → List Line → Result (Option (List Line)) KeyRefusal
 with_event None event = Ok (Some event)
-with_event (Some first) event = Err (refusal.TwoSeries (first_line event))
+with_event (Some first) event =
+    if are_same_lines (event_words first) (event_words event) then Ok (Some first) else Err (refusal.TwoSeries (first_line event))
 
 -- the event of an index more, if the file has one
 abbrev pub with_found : Option (List Line) → Option (List Line) → Result (Option (List Line)) KeyRefusal
@@ -72,11 +75,16 @@ gathered_at events indexes = key_in_turn (with_index events) None indexes
 
 -- what an event states, which a limit refuses at its own line
 abbrev pub event_stated : Option ℤ → List Line → Stated
-event_stated offset event = record { series = series_of offset event; place = first_line event; zones = zone_of event ∷ [] }
+event_stated offset event = record {
+  series = series_of offset event;
+  place = first_line event;
+  zones = zone_of event ∷ [];
+  words = words_in (event ∷ []);
+}
 
 -- what is refused states no series
 abbrev pub refused_stated : KeyRefusal → Stated
-refused_stated r = record { series = Err r; place = 0; zones = [] }
+refused_stated r = record { series = Err r; place = 0; zones = []; words = words_in [] }
 
 -- what the events of a key state, by what is gathered of them; none has no start
 abbrev pub gathered_stated : Option ℤ → Result (Option (List Line)) KeyRefusal → Stated
@@ -84,10 +92,22 @@ gathered_stated offset (Ok (Some event)) = event_stated offset event
 gathered_stated offset (Ok None) = refused_stated (refusal.Event NoStart 0)
 gathered_stated offset (Err r) = refused_stated r
 
--- what the events of some indexes state together
+-- the event of an index, if there is one
+abbrev pub text_at : List (List Line) → ℕ → List (List Line)
+text_at events index = option_to_list (slice_get events index)
+
+-- the events of indexes
+abbrev pub texts_at : List (List Line) → List ℕ → List (List Line)
+texts_at events indexes = flat_map (text_at events) indexes
+
+-- what the events of some indexes state together, in the words of all of them
 unfoldable pub stated_in : Option ℤ → List (List Line) → List ℕ → Stated
-stated_in offset events indexes = gathered_stated offset (gathered_at events indexes)
+stated_in offset events indexes = record (gathered_stated offset (gathered_at events indexes)) { words = words_in (texts_at events indexes) }
+
+-- the title of the event of an index, empty without one
+abbrev pub title_at : List (List Line) → ℕ → List ℕ
+title_at events index = unwrap_or (option_map title_of (slice_get events index)) []
 
 -- The calendar of these events.
 abbrev pub calendar_of : Option ℤ → List (List Line) → Calendar
-calendar_of offset events = record { keys = map key_of events; stated = stated_in offset events }
+calendar_of offset events = calendar_by (map key_of events) (stated_in offset events) (title_at events)

@@ -8,8 +8,11 @@ use crate::event::keys_of;
 use crate::find::text_parts;
 use crate::part::Part;
 use crate::series::key_series;
-use rr_model::NoMemory;
-use rr_seam::{EventFile, FileFault, FileRefusal, Key, KeyFault, KeySeries, MAX_FILE, copy_key};
+use crate::words::{title_at, words_at};
+use rr_model::{Bytes, NoMemory};
+use rr_seam::{
+    EventFile, FileFault, FileRefusal, Key, KeyFault, KeySeries, KeyWords, MAX_FILE, copy_key,
+};
 use rr_text::without_mark;
 use std::alloc::Global;
 
@@ -57,11 +60,13 @@ impl<'a> VcalFile<'a> {
 impl<'a> EventFile for VcalFile<'a> {
     ghost use Rattle.std.specs.Prelude.{map};
     ghost use Rattle.rr_vcalfile.specs.Parts.{lines_in};
-    ghost use Rattle.rr_vcalfile.specs.Stated.{stated_in};
+    ghost use Rattle.rr_vcalfile.specs.Stated.{stated_in, title_at};
 
     ghost keys = { λ f. f.keys.items };
 
     ghost stated = { λ f indexes. stated_in f.offset (map lines_in f.parts.items) indexes };
+
+    ghost titles = { λ f index. title_at (map lines_in f.parts.items) index };
 
     fn count(&self) -> usize {
         self.keys.len()
@@ -73,5 +78,13 @@ impl<'a> EventFile for VcalFile<'a> {
 
     fn key_series(&self, alloc: Global, indexes: &[usize]) -> Result<KeySeries, KeyFault> {
         key_series(alloc, self.offset, self.parts.as_slice(), indexes)
+    }
+
+    fn key_words(&self, alloc: Global, indexes: &[usize]) -> Result<KeyWords, NoMemory> {
+        words_at(alloc, self.parts.as_slice(), indexes)
+    }
+
+    fn title(&self, alloc: Global, index: usize) -> Result<Bytes, NoMemory> {
+        title_at(alloc, self.parts.as_slice(), index)
     }
 }

@@ -5,8 +5,10 @@ mod begin;
 mod event;
 mod file;
 mod find;
+mod first;
 mod gather;
 mod part;
 mod series;
+mod words;
 
 pub use file::VcalFile;

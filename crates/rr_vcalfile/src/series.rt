@@ -4,11 +4,13 @@ ghost use Rattle.rr_model.specs.Series.Validity.{IsValidSeries};
 ghost use Rattle.rr_model.specs.Vcal.Validity.{IsValidVSeries};
 ghost use Rattle.rr_seam.specs.Stated.{AnswersStated};
 ghost use Rattle.rr_seam.specs.Steps.{AnswersKey};
+ghost use Rattle.rr_vcalfile.specs.Gathered.{first_lines};
 ghost use Rattle.rr_vcalfile.specs.Parts.{lines_in};
 ghost use Rattle.rr_vcalfile.specs.Stated.{event_stated, gathered_stated, series_of, stated_in, vseries_of};
 
 use crate::event::{first_line, zone_of};
 use crate::find::part_lines;
+use crate::first::FirstEvent;
 use crate::gather::gather;
 use crate::part::Part;
 use rr_ical::scan_lines;
@@ -67,12 +69,12 @@ fn event_stated(alloc: Global, offset: Option<i32>, part: Part) -> Result<KeySer
 fn gathered_stated(
     alloc: Global,
     offset: Option<i32>,
-    gathered: Option<Part>,
+    gathered: Option<FirstEvent>,
 ) -> Result<KeySeries, KeyFault>
-    ensures { AnswersStated (gathered_stated offset (Ok (option_map lines_in gathered.entry))) result }
+    ensures { AnswersStated (gathered_stated offset (Ok (option_map first_lines gathered.entry))) result }
 {
     match gathered {
-        Some(part) => event_stated(alloc, offset, part),
+        Some(first) => event_stated(alloc, offset, first.part),
         None => Err(KeyFault::Refused(KeyRefusal::Event {
             refusal: Refusal::NoStart,
             place: 0,
@@ -82,7 +84,7 @@ fn gathered_stated(
 
 /// What the events of these indexes state together.
 ///
-/// The refusal is `TwoSeries` of a second event, then what `rr_vcal::read` refuses of the first.
+/// The refusal is `TwoSeries` of a second event in other words, then what `rr_vcal::read` refuses of the first.
 #[tactic(auto, unfolding(crate::specs::Stated::stated_in))]
 pub(crate) fn key_series(
     alloc: Global,

@@ -1,5 +1,0 @@
-use Rattle.rr_icalfile.proofs.StatedLemmas.{none_put}
-use Rattle.rr_icalfile.proofs.stated.put_event.Goals as goal
-
-pub returns-in_default : goal.returns-in_default
-returns-in_default c = none_put c.args.events.now.items c.args.pieces.now c.args.index c.in_default.ensures.lookup.3
