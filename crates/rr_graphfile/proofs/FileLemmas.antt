@@ -1,5 +1,6 @@
 -- The value of a text.
-use Rattle.std.proofs.Common.{◌≡◌, ℕ, ℤ, List, length, nat_lt, Bool, true, false, cond, None, Some, Option, Ok, Err, refl, sym, ap, ◌∙◌, if◌then◌else◌}
+use Rattle.std.proofs.Common.{◌≡◌, ℕ, ℤ, List, length, nat_lt, Bool, true, false, cond, None, Some, Option, Ok, Err, refl, sym, ap, ◌∙◌}
+use Rattle.std.specs.Prelude.{All}
 use Rattle.std.specs.Str.{IsUtf8, is_utf8}
 use Rattle.std.proofs.lemmas.Str.{is_utf8-from_IsUtf8, IsUtf8-from_is_utf8}
 use Rattle.serde_json.specs.Data.{Data}
@@ -15,8 +16,11 @@ use Rattle.rr_seam.specs.declared.file.FileRefusal.TheVariants.{BadJson, TooLong
 use Rattle.rr_seam.specs.declared.file.TheConstants.{MAX_FILE}
 use Rattle.rr_graphfile.specs.Files.{AnswersList, AnswersValue, calendar, calendar_in, calendar_or}
 use Rattle.rr_graphfile.specs.Items.{file_items, items_in, items_or_refusal, json_value, keys_in, value_items}
+use Rattle.rr_graphfile.specs.Known.{IsTurnedAlike, known_meaning}
 use Rattle.rr_graphfile.specs.Stated.{calendar_of, stated_in}
+use Rattle.rr_graphfile.specs.Turning.{Meaning}
 use Rattle.rr_graphfile.specs.declared.file.GraphFile.{GraphFile}
+use Rattle.rr_graphfile.proofs.StatedLemmas.{stated_alike}
 
 pub json_read : (text : List ℕ) (value : Data) → IsUtf8 text → read text ≡ Some value → json_value text ≡ Ok value
 json_read text value utf8 is = rw (is_utf8-from_IsUtf8 text utf8, is) refl
@@ -53,16 +57,21 @@ module _ (bytes text : List ℕ) (value : Value) (is : text ≡ without_mark byt
 
 -- ---- the calendar of a file
 
-pub calendar_read : (offset : Option ℤ) (bytes : List ℕ) (file : GraphFile) → file.offset ≡ offset → file_items bytes ≡ Ok (items_in (view file.value))
-    → file.keys.items ≡ keys_in (items_in (view file.value)) → AnswersCalendar calendar_in (calendar offset bytes) (Ok file)
-calendar_read offset bytes file is reads keys = record {
-  of_file = calendar_of offset (items_in (view file.value));
-  reads = ap (calendar_or offset) reads;
+pub calendar_read : (means : Meaning) (offset : Option ℤ) (bytes : List ℕ) (file : GraphFile) → file.offset ≡ offset
+    → file_items bytes ≡ Ok (items_in (view file.value)) → file.keys.items ≡ keys_in (items_in (view file.value))
+    → All (IsTurnedAlike (known_meaning file.zones) means) (items_in (view file.value))
+    → AnswersCalendar calendar_in (calendar means offset bytes) (Ok file)
+calendar_read means offset bytes file is reads keys alike = record {
+  of_file = calendar_of means offset (items_in (view file.value));
+  reads = ap (calendar_or means offset) reads;
   keys = keys;
-  stated = λ indexes. ap (λ (o : Option ℤ). stated_in o (items_in (view file.value)) indexes) is;
+  stated = λ indexes.
+      ap (λ (o : Option ℤ). stated_in (known_meaning file.zones) o (items_in (view file.value)) indexes) is
+      ∙ stated_alike (known_meaning file.zones) means (items_in (view file.value)) alike offset indexes;
+  titles = λ index. refl;
 }
 
-pub calendar_refused : (offset : Option ℤ) (bytes : List ℕ) (fault : FileFault) → AnswersList (file_items bytes) (Err fault)
-    → AnswersCalendar calendar_in (calendar offset bytes) (Err fault)
-calendar_refused offset bytes (Refused r) h = ap (calendar_or offset) h
-calendar_refused offset bytes NoMemory h = tt
+pub calendar_refused : (means : Meaning) (offset : Option ℤ) (bytes : List ℕ) (fault : FileFault) → AnswersList (file_items bytes) (Err fault)
+    → AnswersCalendar calendar_in (calendar means offset bytes) (Err fault)
+calendar_refused means offset bytes (Refused r) h = ap (calendar_or means offset) h
+calendar_refused means offset bytes NoMemory h = tt

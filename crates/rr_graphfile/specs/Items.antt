@@ -115,6 +115,10 @@ is_instance (Some Exception) = true
 abbrev pub is_cancelled : Data → Bool
 is_cancelled event = is_true (member_of (codes "isCancelled") event)
 
+-- the title of an event, empty if it has none (Microsoft Graph, event, subject)
+abbrev pub title_of : Data → List ℕ
+title_of event = unwrap_or (text_in (codes "subject") event) []
+
 -- an event has a recurrence
 abbrev pub repeats : Data → Bool
 repeats event = is_some (member_of (codes "recurrence") event)
@@ -206,3 +210,18 @@ zone_of_start (Some start) = zone_at start
 -- the zone of an event; dates have none
 abbrev pub zone_of : Data → List ℕ
 zone_of event = if is_all_day event then [] else zone_of_start (member_of (codes "start") event)
+
+-- the text of recurrenceTimeZone, empty if it is missing (Microsoft Graph, recurrenceRange)
+abbrev pub range_zone : Data → List ℕ
+range_zone event =
+    text_or_empty (option_and_then (text_in (codes "recurrenceTimeZone"))
+    (option_and_then (member_of (codes "range")) (member_of (codes "recurrence") event)))
+
+-- the zone of this name, if it is not empty, otherwise that in which an event was made (Microsoft Graph, event: originalStartTimeZone)
+abbrev pub zone_or_original : List ℕ → Data → List ℕ
+zone_or_original [] event = text_or_empty (text_in (codes "originalStartTimeZone") event)
+zone_or_original (b ∷ bs) event = b ∷ bs
+
+-- the name of the event's own zone: that of its range, otherwise that in which it was made; empty if neither is stated
+abbrev pub own_zone : Data → List ℕ
+own_zone event = zone_or_original (range_zone event) event

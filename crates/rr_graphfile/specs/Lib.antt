@@ -1,5 +1,7 @@
 pub mod Items
 pub mod Names
+pub mod Turning
 pub mod Stated
+pub mod Known
 pub mod Parsed
 pub mod Files

@@ -19,11 +19,14 @@ use Rattle.rr_model.specs.declared.refusal.Refusal.TheVariants.{BadMember, Mixed
 use Rattle.rr_model.specs.declared.rule.Series.{Series}
 use Rattle.rr_model.specs.declared.stamp.Stamp.{Stamp}
 use Rattle.rr_seam.specs.Stated.{Calendar, Stated}
+use Rattle.rr_seam.specs.Words.{Words}
+use Rattle.rr_seam.specs.declared.words.Language.TheVariants.{Graph}
 use Rattle.rr_seam.specs.Steps.{◌>=>◌, at_event, key_in_turn}
 use Rattle.rr_seam.specs.declared.refusal.KeyRefusal.{KeyRefusal}
 use Rattle.rr_seam.specs.declared.refusal.KeyRefusal.TheVariants as refusal
 use Rattle.rr_moved.specs.Moved.{Shifts, edited_moved, no_shifts, with_moment, with_start_at}
-use Rattle.rr_graphfile.specs.Items.{array_in, elements_or_none, instance_day, is_cancelled, keys_in, repeats, text_or_empty, type_of, zone_named, zone_of}
+use Rattle.rr_graphfile.specs.Items.{array_in, elements_or_none, instance_day, is_cancelled, keys_in, range_zone, repeats, title_of, type_of, zone_named}
+use Rattle.rr_graphfile.specs.Turning.{Meaning, Turning, offset_in, start_offset, turned_zone, turning_of}
 use Rattle.rr_graphfile.specs.declared.item.EventType.{EventType}
 use Rattle.rr_graphfile.specs.declared.item.EventType.TheVariants.{Single, Master, Occurrence, Exception}
 
@@ -112,22 +115,26 @@ with_cancelled place kind start shifts id = moment_by_id place kind start (as_st
 abbrev pub moment_near : Kind → ℤ → ℤ → ℤ
 moment_near kind start at = moment_on kind start (day_part Moments at)
 
--- the moment at which an instance was to be, which is stated in UTC: that of its day by a stated offset
-abbrev pub moment_in_utc : Option ℤ → ℕ → Kind → ℤ → Option Stamp → Result ℤ KeyRefusal
-moment_in_utc offset place kind start None = Err (refusal.BadInstance place)
-moment_in_utc None place kind start (Some stamp) = Err (refusal.Event UtcMoment place)
-moment_in_utc (Some offset) place kind start (Some stamp) =
-    ok_or (option_map (moment_near kind start) (turned_start true (Some offset) stamp.at)) (refusal.BadInstance place)
+-- the moment at which an instance was to be, which is stated in UTC: that of its day by this offset
+abbrev pub moment_by_offset : ℕ → Kind → ℤ → ℤ → Option ℤ → Result ℤ KeyRefusal
+moment_by_offset place kind start at None = Err (refusal.Event UtcMoment place)
+moment_by_offset place kind start at (Some offset) =
+    ok_or (option_map (moment_near kind start) (turned_start true (Some offset) at)) (refusal.BadInstance place)
+
+-- the moment at which an instance was to be, turned as those of its series
+abbrev pub moment_in_utc : Turning → ℕ → Kind → ℤ → Option Stamp → Result ℤ KeyRefusal
+moment_in_utc turning place kind start None = Err (refusal.BadInstance place)
+moment_in_utc turning place kind start (Some stamp) = moment_by_offset place kind start stamp.at (offset_in turning stamp.at)
 
 -- by an instance's occurrenceId, and if that is missing by its originalStart, the moment at which it was to be
-abbrev pub original_by : Option ℤ → ℕ → Kind → ℤ → Data → Option (List ℕ) → Result ℤ KeyRefusal
-original_by offset place kind start event (Some id) = moment_by_id place kind start (Some id)
-original_by offset place kind start event None =
-    moment_in_utc offset place kind start (option_and_then graph_moment (text_in (codes "originalStart") event))
+abbrev pub original_by : Turning → ℕ → Kind → ℤ → Data → Option (List ℕ) → Result ℤ KeyRefusal
+original_by turning place kind start event (Some id) = moment_by_id place kind start (Some id)
+original_by turning place kind start event None =
+    moment_in_utc turning place kind start (option_and_then graph_moment (text_in (codes "originalStart") event))
 
 -- the moment at which an instance was to be
-abbrev pub original_of : Option ℤ → ℕ → Kind → ℤ → Data → Result ℤ KeyRefusal
-original_of offset place kind start event = original_by offset place kind start event (text_in (codes "occurrenceId") event)
+abbrev pub original_of : Turning → ℕ → Kind → ℤ → Data → Result ℤ KeyRefusal
+original_of turning place kind start event = original_by turning place kind start event (text_in (codes "occurrenceId") event)
 
 -- the two kinds are one
 abbrev pub is_same_kind : Kind → Kind → Bool
@@ -145,38 +152,38 @@ abbrev pub read_event : Option ℤ → Data → Result GraphEvent Refusal
 read_event offset event = by_pattern offset (member_of (codes "pattern") event) event
 
 -- what an event states of itself, at this place
-abbrev pub event_at : Option ℤ → ℕ → Data → Result GraphEvent KeyRefusal
-event_at offset place event = at_event place (read_event offset event)
+abbrev pub event_at : Turning → ℕ → Data → Result GraphEvent KeyRefusal
+event_at turning place event = at_event place (read_event (start_offset turning event) event)
 
 -- the start of an instance
-abbrev pub start_of : Option ℤ → ℕ → Kind → Data → Result ℤ KeyRefusal
-start_of offset place kind event = event_at offset place event >=> λ read. start_by place kind read read.repeat
+abbrev pub start_of : Turning → ℕ → Kind → Data → Result ℤ KeyRefusal
+start_of turning place kind event = event_at turning place event >=> λ read. start_by place kind read read.repeat
 
 -- the start of an instance is put in
-abbrev pub with_start_of : Option ℤ → ℕ → Kind → Shifts → Data → Result Shifts KeyRefusal
-with_start_of offset place kind shifts event = start_of offset place kind event >=> λ at. Ok (with_start_at shifts at)
+abbrev pub with_start_of : Turning → ℕ → Kind → Shifts → Data → Result Shifts KeyRefusal
+with_start_of turning place kind shifts event = start_of turning place kind event >=> λ at. Ok (with_start_at shifts at)
 
 -- the start of an instance is put in, unless it is cancelled
-abbrev pub with_start : Option ℤ → ℕ → Kind → Shifts → Data → Result Shifts KeyRefusal
-with_start offset place kind shifts event = if is_cancelled event then Ok shifts else with_start_of offset place kind shifts event
+abbrev pub with_start : Turning → ℕ → Kind → Shifts → Data → Result Shifts KeyRefusal
+with_start turning place kind shifts event = if is_cancelled event then Ok shifts else with_start_of turning place kind shifts event
 
 -- a moved instance is taken out
-abbrev pub taken_out : Option ℤ → ℕ → Kind → ℤ → Shifts → Data → Result Shifts KeyRefusal
-taken_out offset place kind start shifts event = original_of offset place kind start event >=> with_moment place shifts
+abbrev pub taken_out : Turning → ℕ → Kind → ℤ → Shifts → Data → Result Shifts KeyRefusal
+taken_out turning place kind start shifts event = original_of turning place kind start event >=> with_moment place shifts
 
 -- a moved instance is taken out and put in
-abbrev pub with_exception : Option ℤ → ℕ → Kind → ℤ → Shifts → Data → Result Shifts KeyRefusal
-with_exception offset place kind start shifts event = taken_out offset place kind start shifts event >=> λ more. with_start offset place kind more event
+abbrev pub with_exception : Turning → ℕ → Kind → ℤ → Shifts → Data → Result Shifts KeyRefusal
+with_exception turning place kind start shifts event = taken_out turning place kind start shifts event >=> λ more. with_start turning place kind more event
 
 -- what the instances that a series lists take out and put in, the cancelled ones first
-abbrev pub shifts_of : Option ℤ → ℕ → Kind → ℤ → Lists → Result Shifts KeyRefusal
-shifts_of offset place kind start lists =
+abbrev pub shifts_of : Turning → ℕ → Kind → ℤ → Lists → Result Shifts KeyRefusal
+shifts_of turning place kind start lists =
     key_in_turn (with_cancelled place kind start) no_shifts lists.cancelled >=> λ shifts.
-    key_in_turn (with_exception offset place kind start) shifts lists.exceptions
+    key_in_turn (with_exception turning place kind start) shifts lists.exceptions
 
 -- what the instances that an event lists take out and put in
-abbrev pub event_shifts : Option ℤ → ℕ → Kind → ℤ → Data → Result Shifts KeyRefusal
-event_shifts offset place kind start event = lists_in place event >=> shifts_of offset place kind start
+abbrev pub event_shifts : Turning → ℕ → Kind → ℤ → Data → Result Shifts KeyRefusal
+event_shifts turning place kind start event = lists_in place event >=> shifts_of turning place kind start
 
 -- ---- the series of a key
 
@@ -186,71 +193,89 @@ judged_master place (Some Master) false = Err (refusal.Event (BadMember of.Recur
 judged_master place type repeating = Ok tt
 
 -- what a series states of itself
-abbrev pub master_of : Option ℤ → Placed → Result GraphEvent KeyRefusal
-master_of offset placed =
-    judged_master placed.place (type_of placed.event) (repeats placed.event) >=> λ judged. event_at offset placed.place placed.event
+abbrev pub master_of : Turning → Placed → Result GraphEvent KeyRefusal
+master_of turning placed =
+    judged_master placed.place (type_of placed.event) (repeats placed.event) >=> λ judged. event_at turning placed.place placed.event
 
 -- the series of RFC 5545 that an event is, with the instances that it lists
-abbrev pub with_instances : Option ℤ → Placed → GraphEvent → Result Series KeyRefusal
-with_instances offset placed read =
-    event_shifts offset placed.place read.kind read.start placed.event >=> λ shifts.
+abbrev pub with_instances : Turning → Placed → GraphEvent → Result Series KeyRefusal
+with_instances turning placed read =
+    event_shifts turning placed.place read.kind read.start placed.event >=> λ shifts.
     edited_moved (is_cancelled placed.event) placed.place (series_of_graph read) shifts
 
 -- what a series states with the instances that it lists
-abbrev pub series_of : Option ℤ → Placed → Result Series KeyRefusal
-series_of offset placed = master_of offset placed >=> with_instances offset placed
+abbrev pub series_of : Turning → Placed → Result Series KeyRefusal
+series_of turning placed = master_of turning placed >=> with_instances turning placed
 
 -- ---- zones
 
 -- the zones of moved instances, unless they are cancelled
-abbrev pub zones_of_exceptions : List Data → List (List ℕ)
-zones_of_exceptions [] = []
-zones_of_exceptions (d ∷ ds) = if is_cancelled d then zones_of_exceptions ds else zone_of d ∷ zones_of_exceptions ds
+abbrev pub zones_of_exceptions : Turning → List Data → List (List ℕ)
+zones_of_exceptions turning [] = []
+zones_of_exceptions turning (d ∷ ds) =
+    if is_cancelled d then zones_of_exceptions turning ds else turned_zone turning d ∷ zones_of_exceptions turning ds
 
 -- the zone of the days of a range, if it is stated
 abbrev pub range_zones : List ℕ → List (List ℕ)
 range_zones [] = []
 range_zones (b ∷ bs) = zone_named (Some (b ∷ bs)) ∷ []
 
--- the text of recurrenceTimeZone, empty if it is missing (Microsoft Graph, recurrenceRange)
-abbrev pub range_zone : Data → List ℕ
-range_zone event =
-    text_or_empty (option_and_then (text_in (codes "recurrenceTimeZone"))
-    (option_and_then (member_of (codes "range")) (member_of (codes "recurrence") event)))
-
 -- the zones of the days of a series; dates have none
 abbrev pub day_zones : Data → List (List ℕ)
 day_zones event = if is_all_day event then [] else range_zones (range_zone event)
 
--- the zones of a series: that of its start, that of its range, and those of its moved instances
-abbrev pub zones_of : Data → List (List ℕ)
-zones_of event = zone_of event ∷ day_zones event ++ zones_of_exceptions (elements_or_none (array_in (codes "exceptionOccurrences") event))
+-- the zones of a series: that of its start, that of its range, and those of its moved instances, which are turned as the start is
+abbrev pub zones_of : Turning → Data → List (List ℕ)
+zones_of turning event =
+    turned_zone turning event ∷ day_zones event ++ zones_of_exceptions turning (elements_or_none (array_in (codes "exceptionOccurrences") event))
 
 -- ---- the calendar
 
+-- events of this language are in no words that are compared
+abbrev pub no_words : Words
+no_words = record { language = Graph; events = [] }
+
 -- what a series states, which a limit refuses at its own place
-abbrev pub series_stated : Option ℤ → Placed → Stated
-series_stated offset placed = record { series = series_of offset placed; place = placed.place; zones = zones_of placed.event }
+abbrev pub series_turned : Turning → Placed → Stated
+series_turned turning placed = record {
+  series = series_of turning placed;
+  place = placed.place;
+  zones = zones_of turning placed.event;
+  words = no_words;
+}
+
+-- what a series states, its moments of UTC turned by what the name of its zone means
+abbrev pub series_stated : Meaning → Option ℤ → Placed → Stated
+series_stated means offset placed = series_turned (turning_of means offset placed.event) placed
 
 -- what is refused states no series
 abbrev pub refused_stated : KeyRefusal → Stated
-refused_stated r = record { series = Err r; place = 0; zones = [] }
+refused_stated r = record { series = Err r; place = 0; zones = []; words = no_words }
 
 -- what the events of a key state: an instance whose series is not there is refused, and none has no start
-abbrev pub stated_by : Option ℤ → Option Placed → Option ℕ → Stated
-stated_by offset (Some placed) instance = series_stated offset placed
-stated_by offset None (Some place) = refused_stated (refusal.NoMaster place)
-stated_by offset None None = refused_stated (refusal.Event NoStart 0)
+abbrev pub stated_by : Meaning → Option ℤ → Option Placed → Option ℕ → Stated
+stated_by means offset (Some placed) instance = series_stated means offset placed
+stated_by means offset None (Some place) = refused_stated (refusal.NoMaster place)
+stated_by means offset None None = refused_stated (refusal.Event NoStart 0)
 
 -- what the events of a key state, by what is gathered of them
-abbrev pub gathered_stated : Option ℤ → Result Gathered KeyRefusal → Stated
-gathered_stated offset (Ok gathered) = stated_by offset gathered.series gathered.instance
-gathered_stated offset (Err r) = refused_stated r
+abbrev pub gathered_stated : Meaning → Option ℤ → Result Gathered KeyRefusal → Stated
+gathered_stated means offset (Ok gathered) = stated_by means offset gathered.series gathered.instance
+gathered_stated means offset (Err r) = refused_stated r
 
 -- what the events of some indexes of a list state together
-unfoldable pub stated_in : Option ℤ → List Data → List ℕ → Stated
-stated_in offset items indexes = gathered_stated offset (gathered_at items indexes)
+unfoldable pub stated_in : Meaning → Option ℤ → List Data → List ℕ → Stated
+stated_in means offset items indexes = gathered_stated means offset (gathered_at items indexes)
+
+-- the title of an event, if there is one
+abbrev pub title_in : Option Data → List ℕ
+title_in None = []
+title_in (Some event) = title_of event
+
+-- the title of the event of an index
+abbrev pub title_at : List Data → ℕ → List ℕ
+title_at items index = title_in (slice_get items index)
 
 -- The calendar that a list of events is.
-abbrev pub calendar_of : Option ℤ → List Data → Calendar
-calendar_of offset items = record { keys = keys_in items; stated = stated_in offset items }
+abbrev pub calendar_of : Meaning → Option ℤ → List Data → Calendar
+calendar_of means offset items = record { keys = keys_in items; stated = stated_in means offset items; titles = title_at items }

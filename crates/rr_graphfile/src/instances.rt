@@ -1,5 +1,5 @@
 // What the instances that a series lists take out and put in (Microsoft Graph, event, exceptionOccurrences and cancelledOccurrences).
-ghost use Rattle.std.specs.Prelude.{◌≡◌, IfOk, IfSome, codes, map, option_and_then, option_map};
+ghost use Rattle.std.specs.Prelude.{◌≡◌, IfOk, codes, map, option_and_then, option_map};
 ghost use Rattle.serde_json.specs.View.{view};
 ghost use Rattle.rr_model.specs.Graph.Members.{text_in};
 ghost use Rattle.rr_model.specs.Graph.Reading.{graph_moment};
@@ -9,23 +9,24 @@ ghost use Rattle.rr_model.specs.declared.kind.Kind.TheVariants.{Moments};
 ghost use Rattle.rr_moved.specs.Moved.{AreInYears};
 ghost use Rattle.rr_seam.specs.Steps.{AnswersKey, key_in_turn};
 ghost use Rattle.rr_text.specs.Answers.{AnswersAs};
-ghost use Rattle.rr_graphfile.specs.Parsed.{lists_of};
-ghost use Rattle.rr_graphfile.specs.Stated.{event_at, event_shifts, lists_in, moment_by_id, moment_in_utc, moment_near, moment_on, original_of, shifts_of, start_by, start_of, taken_out, with_cancelled, with_exception, with_start, with_start_of};
+ghost use Rattle.rr_graphfile.specs.Parsed.{lists_of, turning_in};
+ghost use Rattle.rr_graphfile.specs.Stated.{event_at, event_shifts, lists_in, moment_by_id, moment_by_offset, moment_in_utc, moment_near, moment_on};
+ghost use Rattle.rr_graphfile.specs.Stated.{original_of, shifts_of, start_by, start_of, taken_out, with_cancelled, with_exception, with_start, with_start_of};
 
 use crate::item::{array_in, instance_day, is_cancelled, repeats, text_in};
+use crate::start::moment_in;
+use crate::turning::{Turning, offset_in, start_offset};
 use rr_graph::value_in;
-use rr_model::{GraphEvent, Kind, Refusal, Repeat, Stamp, day_part, moment_at, second_part};
+use rr_model::{GraphEvent, Kind, Refusal, Repeat, day_part, moment_at, second_part};
 use rr_moved::ShiftSets;
 use rr_seam::{KeyFault, KeyRefusal};
-use rr_text::{extended, later_in_years};
+use rr_text::later_in_years;
 use serde_json::Value;
 use std::alloc::Global;
 
 /// Where instances are judged: beside the start of their series, whose event has this number in its list.
 #[derive(Clone, Copy, Debug, PartialEq, Eq)]
 pub(crate) struct Beside {
-    /// Local time less UTC in seconds, if it is stated.
-    pub(crate) offset: Option<i32>,
     /// The number.
     pub(crate) place: u64,
     /// Whether the series has dates or moments.
@@ -109,71 +110,58 @@ fn moment_near(beside: Beside, at: i64) -> i64
     moment_on(beside, day_part(Kind::Moments, at))
 }
 
-/// The moment that a text states, and no date.
-pub(crate) fn graph_moment(text: &str) -> Option<Stamp>
-    ensures value { result ≡ graph_moment text.now }
-    ensures years { IfSome result (λ stamp. IsInYears Moments stamp.at) }
-{
-    let stamp = extended(text.as_bytes())?;
-    match stamp.kind {
-        Kind::Days => None,
-        Kind::Moments => Some(stamp),
-    }
-}
-
-// The originalStart of an instance.
-fn original_start(event: &Value) -> Option<Stamp>
-    ensures value { result
-        ≡ option_and_then graph_moment (text_in (codes "originalStart") (view event.now)) }
-    ensures years { IfSome result (λ stamp. IsInYears Moments stamp.at) }
-{
-    let text = text_in(event, "originalStart")?;
-    graph_moment(text)
-}
-
-// The moment at which an instance was to be, which is stated in UTC.
-fn moment_in_utc(beside: Beside, event: &Value) -> Result<i64, KeyRefusal>
-    ensures value { result ≡ moment_in_utc beside.offset beside.place beside.kind
-        beside.start (option_and_then graph_moment (text_in (codes "originalStart") (view event.now))) }
+// The moment at which an instance was to be, which is this one of UTC.
+fn moment_by_offset(beside: Beside, at: i64, offset: Option<i32>) -> Result<i64, KeyRefusal>
+    requires { IsInYears Moments at }
+    ensures value { result ≡ moment_by_offset beside.place beside.kind beside.start at offset }
     ensures years { IfOk result (IsInYears beside.kind) }
 {
-    let Some(stamp) = original_start(event) else {
-        return Err(KeyRefusal::BadInstance(beside.place));
-    };
-    let Some(offset) = beside.offset else {
+    let Some(offset) = offset else {
         return Err(KeyRefusal::Event {
             refusal: Refusal::UtcMoment,
             place: beside.place,
         });
     };
-    match later_in_years(stamp.at, offset) {
+    match later_in_years(at, offset) {
         None => Err(KeyRefusal::BadInstance(beside.place)),
         Some(at) => Ok(moment_near(beside, at)),
     }
 }
 
+// The moment at which an instance was to be, which is stated in UTC.
+fn moment_in_utc(beside: Beside, turning: Turning, event: &Value) -> Result<i64, KeyRefusal>
+    ensures value { result ≡ moment_in_utc (turning_in turning.entry) beside.place beside.kind
+        beside.start (option_and_then graph_moment (text_in (codes "originalStart") (view event.now))) }
+    ensures years { IfOk result (IsInYears beside.kind) }
+{
+    match moment_in(event, "originalStart") {
+        None => Err(KeyRefusal::BadInstance(beside.place)),
+        Some(stamp) => moment_by_offset(beside, stamp.at, offset_in(turning, stamp.at)),
+    }
+}
+
 // The moment at which an instance was to be: by its id, and if that is missing by its originalStart.
-fn original_of(beside: Beside, event: &Value) -> Result<i64, KeyRefusal>
-    ensures value { result ≡ original_of beside.offset beside.place beside.kind beside.start
+fn original_of(beside: Beside, turning: Turning, event: &Value) -> Result<i64, KeyRefusal>
+    ensures value { result ≡ original_of (turning_in turning.entry) beside.place beside.kind beside.start
         (view event.now) }
     ensures years { IfOk result (IsInYears beside.kind) }
 {
     match text_in(event, "occurrenceId") {
         Some(id) => moment_by_id(beside, Some(id)),
-        None => moment_in_utc(beside, event),
+        None => moment_in_utc(beside, turning, event),
     }
 }
 
 /// What an event states of itself, at this place.
 pub(crate) fn event_at(
-    offset: Option<i32>,
+    turning: Turning,
     place: u64,
     event: &Value,
 ) -> Result<GraphEvent, KeyRefusal>
-    ensures value { result ≡ event_at offset place (view event.now) }
+    ensures value { result ≡ event_at (turning_in turning.entry) place (view event.now) }
     ensures valid { IfOk result IsValidGraphEvent }
 {
-    match value_in(offset, event) {
+    match value_in(start_offset(turning, event), event) {
         Ok(read) => Ok(read),
         Err(refusal) => Err(KeyRefusal::Event { refusal, place }),
     }
@@ -198,58 +186,78 @@ fn start_by(beside: Beside, event: &GraphEvent) -> Result<i64, KeyRefusal>
 }
 
 // The start of an instance beside its series.
-fn start_of(beside: Beside, event: &Value) -> Result<i64, KeyRefusal>
-    ensures value { result ≡ start_of beside.offset beside.place beside.kind (view event.now) }
+fn start_of(beside: Beside, turning: Turning, event: &Value) -> Result<i64, KeyRefusal>
+    ensures value { result ≡ start_of (turning_in turning.entry) beside.place beside.kind (view event.now) }
     ensures years { IfOk result (IsInYears beside.kind) }
 {
-    let read = event_at(beside.offset, beside.place, event)?;
+    let read = event_at(turning, beside.place, event)?;
     start_by(beside, &read)
 }
 
 // The start of an instance is put in.
-fn with_start_of(beside: Beside, shifts: ShiftSets, event: &Value) -> Result<ShiftSets, KeyFault>
+fn with_start_of(
+    beside: Beside,
+    turning: Turning,
+    shifts: ShiftSets,
+    event: &Value,
+) -> Result<ShiftSets, KeyFault>
     requires { AreInYears beside.kind shifts }
-    ensures value { AnswersKey (with_start_of beside.offset beside.place beside.kind shifts
+    ensures value { AnswersKey (with_start_of (turning_in turning.entry) beside.place beside.kind shifts
         (view event.now)) result }
     ensures years { IfOk result (AreInYears beside.kind) }
 {
-    let start = start_of(beside, event)?;
+    let start = start_of(beside, turning, event)?;
     Ok(shifts.put_in(start)?)
 }
 
 // The start of an instance is put in, unless it is cancelled.
-fn with_start(beside: Beside, shifts: ShiftSets, event: &Value) -> Result<ShiftSets, KeyFault>
+fn with_start(
+    beside: Beside,
+    turning: Turning,
+    shifts: ShiftSets,
+    event: &Value,
+) -> Result<ShiftSets, KeyFault>
     requires { AreInYears beside.kind shifts }
-    ensures value { AnswersKey (with_start beside.offset beside.place beside.kind shifts
+    ensures value { AnswersKey (with_start (turning_in turning.entry) beside.place beside.kind shifts
         (view event.now)) result }
     ensures years { IfOk result (AreInYears beside.kind) }
 {
     if is_cancelled(event) {
         return Ok(shifts);
     }
-    with_start_of(beside, shifts, event)
+    with_start_of(beside, turning, shifts, event)
 }
 
 // A moved instance is taken out.
-fn taken_out(beside: Beside, shifts: ShiftSets, event: &Value) -> Result<ShiftSets, KeyFault>
+fn taken_out(
+    beside: Beside,
+    turning: Turning,
+    shifts: ShiftSets,
+    event: &Value,
+) -> Result<ShiftSets, KeyFault>
     requires { AreInYears beside.kind shifts }
-    ensures value { AnswersKey (taken_out beside.offset beside.place beside.kind beside.start
+    ensures value { AnswersKey (taken_out (turning_in turning.entry) beside.place beside.kind beside.start
         shifts (view event.now)) result }
     ensures years { IfOk result (AreInYears beside.kind) }
 {
-    let at = original_of(beside, event)?;
+    let at = original_of(beside, turning, event)?;
     shifts.take_out(beside.place, at)
 }
 
 // A moved instance is taken out and put in.
-fn with_exception(beside: Beside, shifts: ShiftSets, event: &Value) -> Result<ShiftSets, KeyFault>
+fn with_exception(
+    beside: Beside,
+    turning: Turning,
+    shifts: ShiftSets,
+    event: &Value,
+) -> Result<ShiftSets, KeyFault>
     requires { AreInYears beside.kind shifts }
-    ensures value { AnswersKey (with_exception beside.offset beside.place beside.kind beside.start
+    ensures value { AnswersKey (with_exception (turning_in turning.entry) beside.place beside.kind beside.start
         shifts (view event.now)) result }
     ensures years { IfOk result (AreInYears beside.kind) }
 {
-    let shifts = taken_out(beside, shifts, event)?;
-    with_start(beside, shifts, event)
+    let shifts = taken_out(beside, turning, shifts, event)?;
+    with_start(beside, turning, shifts, event)
 }
 
 // The cancelled instances are taken out.
@@ -273,41 +281,48 @@ fn with_all_cancelled(
 // The moved instances are taken out and put in.
 fn with_all_exceptions(
     beside: Beside,
+    turning: Turning,
     shifts: ShiftSets,
     events: &[Value],
 ) -> Result<ShiftSets, KeyFault>
     requires { AreInYears beside.kind shifts }
-    ensures value { AnswersKey (key_in_turn (with_exception beside.offset beside.place beside.kind
+    ensures value { AnswersKey (key_in_turn (with_exception (turning_in turning.entry) beside.place beside.kind
         beside.start) shifts (map view events.now)) result }
     ensures years { IfOk result (AreInYears beside.kind) }
 {
     let mut shifts = shifts;
     for event in events {
-        shifts = with_exception(beside, shifts, event)?;
+        shifts = with_exception(beside, turning, shifts, event)?;
     }
     Ok(shifts)
 }
 
 // What the instances that a series lists take out and put in: the cancelled ones first.
-fn shifts_of(alloc: Global, beside: Beside, lists: Lists) -> Result<ShiftSets, KeyFault>
-    ensures value { AnswersKey (shifts_of beside.offset beside.place beside.kind beside.start
+fn shifts_of(
+    alloc: Global,
+    beside: Beside,
+    turning: Turning,
+    lists: Lists,
+) -> Result<ShiftSets, KeyFault>
+    ensures value { AnswersKey (shifts_of (turning_in turning.entry) beside.place beside.kind beside.start
         (lists_of lists.entry)) result }
     ensures years { IfOk result (AreInYears beside.kind) }
 {
     let shifts = with_all_cancelled(beside, ShiftSets::new(alloc), lists.cancelled)?;
-    with_all_exceptions(beside, shifts, lists.exceptions)
+    with_all_exceptions(beside, turning, shifts, lists.exceptions)
 }
 
 /// What the instances that an event lists take out and put in.
 pub(crate) fn event_shifts(
     alloc: Global,
     beside: Beside,
+    turning: Turning,
     event: &Value,
 ) -> Result<ShiftSets, KeyFault>
-    ensures value { AnswersKey (event_shifts beside.offset beside.place beside.kind beside.start
+    ensures value { AnswersKey (event_shifts (turning_in turning.entry) beside.place beside.kind beside.start
         (view event.now)) result }
     ensures years { IfOk result (AreInYears beside.kind) }
 {
     let lists = lists_in(beside.place, event)?;
-    shifts_of(alloc, beside, lists)
+    shifts_of(alloc, beside, turning, lists)
 }

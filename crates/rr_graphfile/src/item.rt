@@ -2,7 +2,7 @@
 ghost use Rattle.std.specs.Prelude.{◌≡◌, length, map, option_map, IfSome};
 ghost use Rattle.serde_json.specs.View.{view};
 ghost use Rattle.serde_json.specs.Find.{as_array};
-ghost use Rattle.rr_graphfile.specs.Items.{array_in, elements_of, instance_day, is_cancelled, is_instance, is_object, own_name, repeats, type_named, type_of};
+ghost use Rattle.rr_graphfile.specs.Items.{array_in, elements_of, instance_day, is_cancelled, is_instance, is_object, own_name, repeats, title_of, type_named, type_of};
 ghost use Rattle.rr_model.specs.Graph.Members.{member_of, text_in};
 ghost use Rattle.rr_model.specs.Moment.Years.{HasFourDigitYear};
 ghost use Rattle.rr_model.specs.Text.ExtendedMoments.{extended_date_alone};
@@ -104,6 +104,16 @@ pub(crate) fn own_name(event: &Value) -> &[u8]
     ensures { result.now ≡ own_name (view event.now) }
 {
     match text_in(event, "iCalUId") {
+        None => b"",
+        Some(text) => text.as_bytes(),
+    }
+}
+
+/// The title of an event, empty if it has none.
+pub(crate) fn title_of(event: &Value) -> &[u8]
+    ensures { result.now ≡ title_of (view event.now) }
+{
+    match text_in(event, "subject") {
         None => b"",
         Some(text) => text.as_bytes(),
     }

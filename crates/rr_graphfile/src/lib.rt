@@ -5,8 +5,11 @@ mod file;
 mod gather;
 mod instances;
 mod item;
+mod known;
 mod names;
 mod series;
+mod start;
+mod turning;
 mod zones;
 
 pub use file::GraphFile;

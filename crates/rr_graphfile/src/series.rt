@@ -5,13 +5,16 @@ ghost use Rattle.rr_model.specs.Graph.Validity.{IsValidGraphEvent};
 ghost use Rattle.rr_model.specs.Series.Validity.{IsValidSeries};
 ghost use Rattle.rr_seam.specs.Stated.{AnswersStated};
 ghost use Rattle.rr_seam.specs.Steps.{AnswersKey};
-ghost use Rattle.rr_graphfile.specs.Parsed.{gathered_in, placed_in};
+ghost use Rattle.rr_graphfile.specs.Known.{known_meaning};
+ghost use Rattle.rr_graphfile.specs.Parsed.{gathered_in, placed_in, turning_in};
 ghost use Rattle.rr_graphfile.specs.Items.{repeats, type_of};
-ghost use Rattle.rr_graphfile.specs.Stated.{gathered_stated, judged_master, master_of, series_of, series_stated, stated_in, with_instances};
+ghost use Rattle.rr_graphfile.specs.Stated.{gathered_stated, judged_master, master_of, series_of, series_stated, series_turned, stated_in, with_instances};
 
 use crate::gather::{Gathered, Placed, gather};
 use crate::instances::{Beside, event_at, event_shifts};
 use crate::item::{EventType, is_cancelled, repeats, type_of};
+use crate::known::ZoneMap;
+use crate::turning::{Turning, turning_of};
 use crate::zones::zones_of;
 use rr_graph::to_series;
 use rr_model::{GraphEvent, Member, Refusal, Series};
@@ -35,67 +38,82 @@ fn judge_master(placed: Placed) -> Result<(), KeyRefusal>
 }
 
 // What a series states of itself.
-fn master_of(offset: Option<i32>, placed: Placed) -> Result<GraphEvent, KeyRefusal>
-    ensures value { result ≡ master_of offset (placed_in placed.entry) }
+fn master_of(turning: Turning, placed: Placed) -> Result<GraphEvent, KeyRefusal>
+    ensures value { result ≡ master_of (turning_in turning.entry) (placed_in placed.entry) }
     ensures valid { IfOk result IsValidGraphEvent }
 {
     judge_master(placed)?;
-    event_at(offset, placed.place, placed.event)
+    event_at(turning, placed.place, placed.event)
 }
 
 // The series of RFC 5545 that an event is, with the instances that it lists.
 fn with_instances(
     alloc: Global,
-    offset: Option<i32>,
+    turning: Turning,
     placed: Placed,
     read: &GraphEvent,
 ) -> Result<Series, KeyFault>
     requires { IsValidGraphEvent read.now }
-    ensures value { AnswersKey (with_instances offset (placed_in placed.entry) read.now) result }
+    ensures value { AnswersKey (with_instances (turning_in turning.entry) (placed_in placed.entry)
+        read.now) result }
     ensures valid { IfOk result IsValidSeries }
 {
     let beside = Beside {
-        offset,
         place: placed.place,
         kind: read.kind,
         start: read.start,
     };
-    let shifts = event_shifts(alloc, beside, placed.event)?;
+    let shifts = event_shifts(alloc, beside, turning, placed.event)?;
     let series = to_series(alloc, read)?;
     let is_cancelled = is_cancelled(placed.event);
     moved(alloc, is_cancelled, placed.place, series, &shifts)
 }
 
 // The series that an event states, with the instances that it lists.
-fn series_of(alloc: Global, offset: Option<i32>, placed: Placed) -> Result<Series, KeyFault>
-    ensures value { AnswersKey (series_of offset (placed_in placed.entry)) result }
+fn series_of(alloc: Global, turning: Turning, placed: Placed) -> Result<Series, KeyFault>
+    ensures value { AnswersKey (series_of (turning_in turning.entry) (placed_in placed.entry)) result }
     ensures valid { IfOk result IsValidSeries }
 {
-    let read = master_of(offset, placed)?;
-    with_instances(alloc, offset, placed, &read)
+    let read = master_of(turning, placed)?;
+    with_instances(alloc, turning, placed, &read)
+}
+
+// What a series states whose moments of UTC are turned so.
+fn series_turned(alloc: Global, turning: Turning, placed: Placed) -> Result<KeySeries, KeyFault>
+    ensures { AnswersStated (series_turned (turning_in turning.entry) (placed_in placed.entry)) result }
+{
+    Ok(KeySeries {
+        series: series_of(alloc, turning, placed)?,
+        zones: zones_of(alloc, turning, placed.event)?,
+        place: placed.place,
+    })
 }
 
 // What a series states.
-fn series_stated(alloc: Global, offset: Option<i32>, placed: Placed) -> Result<KeySeries, KeyFault>
-    ensures { AnswersStated (series_stated offset (placed_in placed.entry)) result }
+fn series_stated(
+    alloc: Global,
+    zones: &ZoneMap,
+    offset: Option<i32>,
+    placed: Placed,
+) -> Result<KeySeries, KeyFault>
+    ensures { AnswersStated (series_stated (known_meaning zones.now) offset
+        (placed_in placed.entry)) result }
 {
-    Ok(KeySeries {
-        series: series_of(alloc, offset, placed)?,
-        zones: zones_of(alloc, placed.event)?,
-        place: placed.place,
-    })
+    series_turned(alloc, turning_of(zones, offset, placed.event), placed)
 }
 
 // What the events of a key state; a key without an event has no start.
 fn gathered_stated(
     alloc: Global,
+    zones: &ZoneMap,
     offset: Option<i32>,
     gathered: Gathered,
 ) -> Result<KeySeries, KeyFault>
-    ensures { AnswersStated (gathered_stated offset (Ok (gathered_in gathered.entry))) result }
+    ensures { AnswersStated (gathered_stated (known_meaning zones.now) offset
+        (Ok (gathered_in gathered.entry))) result }
 {
     match (gathered.series, gathered.instance) {
-        (Some(placed), _) => series_stated(alloc, offset, placed),
+        (Some(placed), _) => series_stated(alloc, zones, offset, placed),
         (None, Some(place)) => Err(KeyFault::Refused(KeyRefusal::NoMaster(place))),
         (None, None) => Err(KeyFault::Refused(KeyRefusal::Event {
             refusal: Refusal::NoStart,
@@ -114,12 +132,14 @@ fn gathered_stated(
 #[tactic(auto, unfolding(crate::specs::Stated::stated_in))]
 pub(crate) fn key_series(
     alloc: Global,
+    zones: &ZoneMap,
     offset: Option<i32>,
     items: &[Value],
     indexes: &[usize],
 ) -> Result<KeySeries, KeyFault>
-    ensures { AnswersStated (stated_in offset (map view items.now) indexes.now) result }
+    ensures { AnswersStated (stated_in (known_meaning zones.now) offset (map view items.now)
+        indexes.now) result }
 {
     let gathered = gather(items, indexes)?;
-    gathered_stated(alloc, offset, gathered)
+    gathered_stated(alloc, zones, offset, gathered)
 }

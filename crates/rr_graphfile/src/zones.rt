@@ -2,28 +2,20 @@
 ghost use Rattle.std.specs.Prelude.{◌≡◌, ◌++◌, IfOk, OnOk, map, option_and_then, codes, option_map};
 ghost use Rattle.serde_json.specs.View.{view};
 ghost use Rattle.rr_model.specs.Graph.Members.{text_in};
-ghost use Rattle.rr_model.specs.Graph.Reading.{graph_moment, is_all_day};
-ghost use Rattle.rr_graphfile.specs.Items.{has_mark, zone_at, zone_named, zone_of};
-ghost use Rattle.rr_graphfile.specs.Stated.{day_zones, range_zone, range_zones, zones_of, zones_of_exceptions};
+ghost use Rattle.rr_model.specs.Graph.Reading.{graph_moment};
+ghost use Rattle.rr_graphfile.specs.Items.{has_mark, own_zone, range_zone, zone_at, zone_named, zone_of};
+ghost use Rattle.rr_graphfile.specs.Parsed.{turning_in};
+ghost use Rattle.rr_graphfile.specs.Stated.{day_zones, range_zones, zones_of, zones_of_exceptions};
 
-use crate::instances::graph_moment;
 use crate::item::{array_in, find_member, is_cancelled, text_in};
+use crate::start::{is_all_day, moment_in};
+use crate::turning::{Turning, turned_zone};
 use rr_model::{Bytes, NoMemory};
 use serde_json::Value;
 use std::alloc::Global;
 
-// Whether an event is all day.
-fn is_all_day(event: &Value) -> bool
-    ensures { result ≡ is_all_day (view event.now) }
-{
-    match find_member(event, "isAllDay") {
-        Some(flag) => flag.as_bool().unwrap_or(false),
-        None => false,
-    }
-}
-
 // A zone of this name, `Z` for UTC; the empty one if none is stated.
-fn zone_named<'v>(zone: Option<&'v str>) -> &'v [u8]
+pub(crate) fn zone_named<'v>(zone: Option<&'v str>) -> &'v [u8]
     ensures { result.now ≡ zone_named (option_map (λ s. s.now) zone.entry) }
 {
     match zone {
@@ -38,10 +30,7 @@ fn has_mark(start: &Value) -> bool
     ensures { result ≡ has_mark (option_and_then graph_moment
         (text_in (codes "dateTime") (view start.now))) }
 {
-    let Some(text) = text_in(start, "dateTime") else {
-        return false;
-    };
-    match graph_moment(text) {
+    match moment_in(start, "dateTime") {
         Some(stamp) => stamp.utc,
         None => false,
     }
@@ -57,8 +46,8 @@ fn zone_at(start: &Value) -> &[u8]
     zone_named(text_in(start, "timeZone"))
 }
 
-// The zone of an event; dates have none.
-fn zone_of(event: &Value) -> &[u8]
+/// The zone that an event states; dates have none.
+pub(crate) fn zone_of(event: &Value) -> &[u8]
     ensures { result.now ≡ zone_of (view event.now) }
 {
     if is_all_day(event) {
@@ -81,6 +70,17 @@ fn range_zone(event: &Value) -> &str
         return "";
     };
     text_in(range, "recurrenceTimeZone").unwrap_or("")
+}
+
+/// The name of the event's own zone: that of its range, otherwise that in which it was made; empty if neither is stated.
+pub(crate) fn own_zone(event: &Value) -> &str
+    ensures { result.now ≡ own_zone (view event.now) }
+{
+    let name = range_zone(event);
+    if !name.is_empty() {
+        return name;
+    }
+    text_in(event, "originalStartTimeZone").unwrap_or("")
 }
 
 // Puts the zone of the days of a range, if it is stated.
@@ -108,27 +108,32 @@ fn put_day_zones(alloc: Global, zones: &mut Vec<Bytes>, event: &Value) -> Result
 fn put_zones_of_exceptions(
     alloc: Global,
     zones: &mut Vec<Bytes>,
+    turning: Turning,
     exceptions: &[Value],
 ) -> Result<(), NoMemory>
     ensures { OnOk result (zones.new.items
-        ≡ zones.old.items ++ zones_of_exceptions (map view exceptions.now)) }
+        ≡ zones.old.items ++ zones_of_exceptions (turning_in turning.entry) (map view exceptions.now)) }
 {
     for event in exceptions {
         if !is_cancelled(event) {
-            zones.push(Bytes::of(alloc, zone_of(event))?)?;
+            zones.push(Bytes::of(alloc, turned_zone(turning, event))?)?;
         }
     }
     Ok(())
 }
 
-/// The zones of a series: that of its start, that of its range, and those of its moved instances.
-pub(crate) fn zones_of(alloc: Global, event: &Value) -> Result<Vec<Bytes>, NoMemory>
-    ensures { IfOk result (λ zones. zones.items ≡ zones_of (view event.now)) }
+/// The zones of a series: that of its start, that of its range, and those of its moved instances, which are turned as the start is.
+pub(crate) fn zones_of(
+    alloc: Global,
+    turning: Turning,
+    event: &Value,
+) -> Result<Vec<Bytes>, NoMemory>
+    ensures { IfOk result (λ zones. zones.items ≡ zones_of (turning_in turning.entry) (view event.now)) }
 {
     let mut zones = Vec::new(alloc);
-    zones.push(Bytes::of(alloc, zone_of(event))?)?;
+    zones.push(Bytes::of(alloc, turned_zone(turning, event))?)?;
     put_day_zones(alloc, &mut zones, event)?;
     let exceptions = array_in(event, "exceptionOccurrences").unwrap_or(&[]);
-    put_zones_of_exceptions(alloc, &mut zones, exceptions)?;
+    put_zones_of_exceptions(alloc, &mut zones, turning, exceptions)?;
     Ok(zones)
 }
