@@ -1,16 +1,38 @@
 -- Worked rows of the definitions.
-use Rattle.std.proofs.Common.{◌≡◌, [], ◌∷◌, None, codes, refl}
+use Rattle.std.proofs.Common.{◌≡◌, [], ◌∷◌, ◌++◌, None, Some, codes, pos, true, false, refl}
+use Rattle.std.specs.Fmt.{decimal}
 use Rattle.rr_model.specs.declared.kind.Kind.TheVariants.{Days, Moments}
+use Rattle.rr_model.specs.Text.Lists.{series_of_list}
 use Rattle.rr_model.specs.declared.verdict.Side.TheVariants.{A, B}
-use Rattle.rr_trip.specs.Printed.{said_text}
+use Rattle.rr_model.specs.declared.verdict.Verdict.TheVariants.{Yes}
+use Rattle.rr_seam.specs.declared.key.Key.TheVariants.{Uid}
+use Rattle.rr_seam.specs.declared.refusal.KeyRefusal.TheVariants.{TwoSeries}
+use Rattle.rr_trip.specs.Printed.{line_text, said_text}
 use Rattle.rr_trip.specs.Readings.{Reading, reading_of}
+use Rattle.rr_trip.specs.Said.{is_empty, said_of_empty}
 use Rattle.rr_trip.specs.Zoned.{Meaning}
-use Rattle.rr_trip.specs.declared.said.Said.TheVariants.{Floating}
+use Rattle.rr_trip.specs.declared.said.Said.TheVariants.{Alike, Compared, Floating, Only}
+use Rattle.rr_trip.specs.declared.said.Zones.TheVariants.{Local}
 use Rattle.rr_true.specs.Occurrences.{utc}
 
 -- a line of a key without a zone in A alone
 floats : said_text (codes "a") (Floating A) ≡ codes "differs a floating A"
 floats = refl
+
+-- a line of a key that both refuse in the same words
+alike : said_text (codes "a") (Alike (TwoSeries 4)) ≡ codes "alike a A TwoSeries " ++ decimal 4
+alike = refl
+
+-- a line with its title, here an empty one, as its last field
+titled : line_text true (record { key = Uid (codes "a"); said = Only B; title = Some [] }) ≡ codes "only B a \"\"\n"
+titled = refl
+
+-- what a cancelled event states has no occurrence, and what a single event states has one
+cancelled : said_of_empty A (is_empty (series_of_list None [])) ≡ Compared Yes Local
+cancelled = refl
+
+single : said_of_empty A (is_empty (series_of_list (Some (record { kind = Days; at = pos 19_000; utc = false })) [])) ≡ Only A
+single = refl
 
 abbrev nothing : Meaning
 nothing name = None

@@ -1,23 +1,104 @@
--- One cell and one day more of a painted month.
-use Rattle.std.proofs.Common.{◌≡◌, ℕ, zero, suc, ◌+◌, ◌-◌, ◌<◌, ℤ, pos, ◌+ℤ◌, List, [], ◌∷◌, ◌++◌, length, refl, ap, sym, ◌∙◌, append_assoc, append-nil, add-one, subst, arith}
+-- One cell, one line and one month more of a picture.
+use Rattle.std.proofs.Common.{◌≡◌, ℕ, zero, suc, ◌+◌, ◌-◌, ◌/◌, ◌%◌, ◌^◌, ◌<◌, ◌≤◌, Bool, ◌||◌, codes, length-append, ℤ, pos, ◌+ℤ◌, List, [], ◌∷◌, ◌++◌, length, refl, ap, sym, ◌∙◌, append_assoc, append-nil, add-one, subst, arith}
 use Rattle.std.specs.Prelude.{Result, Ok, Err}
 use Rattle.std.specs.Result.{OnOk}
+use Rattle.std.specs.Fmt.{decimal}
+use Rattle.std.proofs.lemmas.Fmt.{decimal_nonempty, decimal_step}
+use Rattle.rr_model.specs.Text.Moments.{decimal_of}
 use Rattle.rr_model.specs.declared.sketch.Sketch.{Sketch}
-use Rattle.rr_trip.specs.Grid.{Grows, HasMonth, HasMonths, IsPictureOf, cell_text, cells_text, first_of_month, month_after, times_of_day, times_or, usual_times}
-
--- a row and then the sign of a day are put
-pub cell_put : {T E : Type 0} (r : Result T E) (next put out row : List ℕ) (said sign : ℕ) → put ≡ out ++ row → said ≡ sign
-    → OnOk r (next ≡ put ++ 32 ∷ 32 ∷ said ∷ []) → OnOk r (next ≡ out ++ (row ++ 32 ∷ 32 ∷ sign ∷ []))
-cell_put (Ok x) next put out row said sign e s h =
-    h ∙ ap (λ (xs : List ℕ). xs ++ 32 ∷ 32 ∷ said ∷ []) e ∙ append_assoc out row (32 ∷ 32 ∷ said ∷ [])
-    ∙ ap (λ (n : ℕ). out ++ (row ++ 32 ∷ 32 ∷ n ∷ [])) s
-cell_put (Err x) next put out row said sign e s h = tt
+use Rattle.rr_trip.specs.Grid.{IsPictureOf, blank_cells, cell_text, cells_text, day_sign, first_of_month, has_mark, is_mark, legend_text, month_after, months_text, notes_text, picture_text, times_of_day, times_or, unusual_text, usual_times}
 
 pub one_painted : (a b : Sketch) (first day : ℤ) (n : ℕ) (old out next : List ℕ) → day ≡ first +ℤ pos n → out ≡ old ++ cells_text a b first n
     → next ≡ out ++ cell_text a b day → next ≡ old ++ cells_text a b first (n + 1)
 one_painted a b first day n old out next is e h' =
     let h : next ≡ out ++ cell_text a b (first +ℤ pos n) = subst (λ d. next ≡ out ++ cell_text a b d) is h' in
     rw add-one (h ∙ ap (λ o. o ++ cell_text a b (first +ℤ pos n)) e ∙ append_assoc old (cells_text a b first n) (cell_text a b (first +ℤ pos n)))
+
+-- one day more is looked at
+pub one_marked : (a b : Sketch) (first day : ℤ) (n : ℕ) (marked next : Bool) (sign : ℕ) → day ≡ first +ℤ pos n → marked ≡ has_mark a b first n
+    → sign ≡ day_sign a b day → next ≡ (marked || is_mark sign) → next ≡ has_mark a b first (n + 1)
+one_marked a b first day n marked next sign is m s e =
+    rw add-one (e ∙ ap (λ (x : Bool). x || is_mark sign) m ∙ ap (λ (x : ℕ). has_mark a b first n || is_mark x) (s ∙ ap (day_sign a b) is))
+
+-- ---- texts that grow
+
+-- one part more is put
+pub put_next : (old out next all part : List ℕ) → out ≡ old ++ all → next ≡ out ++ part → next ≡ old ++ (all ++ part)
+put_next old out next all part e h = h ∙ ap (λ (o : List ℕ). o ++ part) e ∙ append_assoc old all part
+
+-- one cell without a day more
+pub one_blank : (old out next : List ℕ) (n : ℕ) → out ≡ old ++ blank_cells n → next ≡ out ++ codes "    " → next ≡ old ++ blank_cells (n + 1)
+one_blank old out next n e h = rw add-one (put_next old out next (blank_cells n) (codes "    ") e h)
+
+-- one day more has its lines, that of A and that of B
+pub one_listed : (usual : List ℕ) (a b : Sketch) (first day : ℤ) (n : ℕ) (old out of_a next : List ℕ) → day ≡ first +ℤ pos n
+    → out ≡ old ++ legend_text usual a b first n → of_a ≡ out ++ unusual_text (codes "A") usual a day
+    → next ≡ of_a ++ unusual_text (codes "B") usual b day → next ≡ old ++ legend_text usual a b first (n + 1)
+one_listed usual a b first day n old out of_a next is e x y =
+    let more : suc n ≡ n + 1 = omega arith in
+    let in_a = unusual_text (codes "A") usual a (first +ℤ pos n) in
+    let in_b = unusual_text (codes "B") usual b (first +ℤ pos n) in
+    put_next old of_a next (legend_text usual a b first n ++ in_a) in_b
+    (put_next old out of_a (legend_text usual a b first n) in_a e (x ∙ ap (λ (d : ℤ). out ++ unusual_text (codes "A") usual a d) is))
+    (y ∙ ap (λ (d : ℤ). of_a ++ unusual_text (codes "B") usual b d) is)
+    ∙ ap (λ (k : ℕ). old ++ legend_text usual a b first k) more
+
+-- the last part was put behind the others
+pub put_last : {T E : Type 0} (r : Result T E) (next out old all part : List ℕ) → out ≡ old ++ all → OnOk r (next ≡ out ++ part)
+    → OnOk r (next ≡ old ++ (all ++ part))
+put_last (Ok x) next out old all part e h = put_next old out next all part e h
+put_last (Err x) next out old all part e h = tt
+
+-- three parts were put one after the other
+pub put_three : {T E : Type 0} (r : Result T E) (next two one old p q s : List ℕ) → one ≡ old ++ p → two ≡ one ++ q → OnOk r (next ≡ two ++ s)
+    → OnOk r (next ≡ old ++ ((p ++ q) ++ s))
+put_three r next two one old p q s e f h = put_last r next two old (p ++ q) s (put_next old one two p q e f) h
+
+-- four parts were put one after the other
+pub put_four : {T E : Type 0} (r : Result T E) (next three two one old p q s t : List ℕ) → one ≡ old ++ p → two ≡ one ++ q → three ≡ two ++ s
+    → OnOk r (next ≡ three ++ t) → OnOk r (next ≡ old ++ (((p ++ q) ++ s) ++ t))
+put_four r next three two one old p q s t e f g h =
+    put_last r next three old ((p ++ q) ++ s) t (put_next old two three (p ++ q) s (put_next old one two p q e f) g) h
+
+-- three months were put one after the other
+pub months_put : {T E : Type 0} (r : Result T E) (next two one old : List ℕ) (text : ℤ → List ℕ) (first second third : ℤ) → second ≡ month_after first
+    → third ≡ month_after second → one ≡ old ++ text first → two ≡ one ++ text second → OnOk r (next ≡ two ++ text third)
+    → OnOk r (next ≡ old ++ ((text first ++ text (month_after first)) ++ text (month_after (month_after first))))
+months_put r next two one old text first second third s t e f h =
+    put_three r next two one old (text first) (text (month_after first)) (text (month_after (month_after first))) e
+    (f ∙ ap (λ (d : ℤ). one ++ text d) s) (subst (λ (d : ℤ). OnOk r (next ≡ two ++ text d)) (t ∙ ap month_after s) h)
+
+-- the months of a picture were put, and the notes behind them
+pub is_picture : (a b : Sketch) (day first : ℤ) (empty painted text usual : List ℕ) → empty ≡ [] → first ≡ first_of_month day
+    → painted ≡ empty ++ months_text a b first → usual ≡ usual_times a b first 92 → text ≡ painted ++ notes_text usual a b first
+    → IsPictureOf a b day text
+is_picture a b day first empty painted text usual e f m u n =
+    let months : painted ≡ months_text a b first = m ∙ ap (λ (o : List ℕ). o ++ months_text a b first) e in
+    n ∙ ap (λ (o : List ℕ). o ++ notes_text usual a b first) months
+    ∙ ap (λ (us : List ℕ). months_text a b first ++ notes_text us a b first) u ∙ ap (picture_text a b) f
+
+-- ---- numbers
+
+-- a number of several digits has one more than its tens
+more_digits : (n : ℕ) → 10 ≤ n → n < 2 ^ 64 → length (decimal n) ≡ length (decimal (n / 10)) + 1
+more_digits n low high = rw (decimal_step n low high) (length-append (decimal (n / 10)) ((48 + n % 10) ∷ []))
+
+-- no zeros stand before a number of two digits or more
+pub decimal_two : (n : ℕ) → 100 ≤ n → n < 2 ^ 64 → decimal_of 2 n ≡ decimal n
+decimal_two n low high =
+    let some : 0 < length (decimal (n / 10)) = decimal_nonempty (n / 10) (omega arith) in
+    let none : 2 - length (decimal n) ≡ 0 = omega (arith, more_digits n (omega arith) high) in
+    rw none refl
+
+-- no zeros stand before a number of four digits or more
+pub decimal_four : (n : ℕ) → 10_000 ≤ n → n < 2 ^ 64 → decimal_of 4 n ≡ decimal n
+decimal_four n low high =
+    let some : 0 < length (decimal (n / 10 / 10 / 10)) = decimal_nonempty (n / 10 / 10 / 10) (omega arith) in
+    let one = more_digits n (omega arith) high in
+    let two = more_digits (n / 10) (omega arith) (omega arith) in
+    let three = more_digits (n / 10 / 10) (omega arith) (omega arith) in
+    let none : 4 - length (decimal n) ≡ 0 = omega (arith, one, two, three) in
+    rw none refl
 
 -- ---- the usual times
 
@@ -56,33 +137,3 @@ module _ (a b : Sketch) (first : ℤ) (i : ℕ) (times : List ℕ) (day : ℤ) (
       by (s ∷ ss) e more =
           let reached : suc i + (n - suc i) ≡ n = omega (arith, below) in
           e ∙ sym (kept s ss (n - suc i) e) ∙ ap (usual_times a b first) reached
-
--- ---- texts that grow
-
-pub grown_by : (old next part : List ℕ) → next ≡ old ++ part → Grows old next
-grown_by old next part e = record { more = part; is = e }
-
-pub grown : (old out next part : List ℕ) → Grows old out → next ≡ out ++ part → Grows old next
-grown old out next part g e = record { more = g.more ++ part; is = e ∙ ap (λ o. o ++ part) g.is ∙ append_assoc old g.more part }
-
-pub grown_twice : (old out next : List ℕ) → Grows old out → Grows out next → Grows old next
-grown_twice old out next g h = grown old out next h.more g h.is
-
-pub not_grown : (old : List ℕ) → Grows old old
-not_grown old = record { more = []; is = sym (append-nil old) }
-
--- three months were put one after the other
-pub months_put : (a b : Sketch) (first second third : ℤ) (old one two next : List ℕ) → second ≡ month_after first → third ≡ month_after second
-    → HasMonth a b first old one → HasMonth a b second one two → HasMonth a b third two next → HasMonths a b first old next
-months_put a b first second third old one two next s t x y z = record {
-  one = one;
-  two = two;
-  first_month = x;
-  second_month = rw s at y;
-  third_month = rw (t, s) at z;
-}
-
--- the months of a picture were put, and more behind them
-pub is_picture : (a b : Sketch) (day first : ℤ) (empty painted text : List ℕ) → empty ≡ [] → first ≡ first_of_month day
-    → HasMonths a b first empty painted → Grows painted text → IsPictureOf a b day text
-is_picture a b day first empty painted text e f months rest = record { painted = painted; months = rw (e, f) at months; rest = rest }

@@ -1,6 +1,7 @@
 mod Examples
 mod JudgeLemmas
 mod SaidLemmas
+mod AlikeLemmas
 mod ZoneLemmas
 mod KnownLemmas
 mod EntryLemmas

@@ -15,7 +15,7 @@ use Rattle.rr_model.specs.declared.verdict.Side.{Side}
 use Rattle.rr_model.specs.declared.verdict.Side.TheVariants.{A, B}
 use Rattle.rr_trip.specs.Entries.{IsSortedOf, entries_from, entries_of, has_key, indexes_in, is_of_a}
 use Rattle.rr_seam.specs.Keys.{is_same_key, key_cmp}
-use Rattle.rr_trip.specs.Report.{AreLinesOf, IsLineOf, IsReport, IsRunAt, IsRunCount, after_a, front_of_a, indexes_from, keys_of, stated_at, stated_in}
+use Rattle.rr_trip.specs.Report.{AreLinesOf, IsLineOf, IsReport, IsRunAt, IsRunCount, after_a, front_of_a, indexes_from, keys_of, stated_at, stated_in, title_at, title_by, title_if}
 use Rattle.rr_trip.specs.Said.{IsSaid}
 use Rattle.rr_trip.specs.Zoned.{ZonedCalendar}
 use Rattle.rr_trip.specs.declared.entry.Entry.{Entry}
@@ -100,32 +100,32 @@ abbrev line_key : ReportLine → Key
 line_key line = line.key
 
 -- each key of entries has one line, which says what is so of the entries with its key, in their order
-abbrev HasEntryLines : ZonedCalendar → ZonedCalendar → List Entry → List ReportLine → Type 0
-HasEntryLines a b entries lines = HasLines entry_key key_cmp key_cmp_total line_key (IsLineOf a b) entries lines
+abbrev HasEntryLines : Bool → ZonedCalendar → ZonedCalendar → List Entry → List ReportLine → Type 0
+HasEntryLines titles a b entries lines = HasLines entry_key key_cmp key_cmp_total line_key (IsLineOf titles a b) entries lines
 
-next_line : (a b : ZonedCalendar) (first : Entry) (more run : List Entry) (line : ReportLine) (lines : List ReportLine)
+next_line : (titles : Bool) (a b : ZonedCalendar) (first : Entry) (more run : List Entry) (line : ReportLine) (lines : List ReportLine)
     → run ≡ take_while (has_key first.key) (first ∷ more) → Ascends entry_key key_cmp key_cmp_total (first ∷ more)
-    → IsLineOf a b first.key run line
-    → (Ascends entry_key key_cmp key_cmp_total (drop (length run) (first ∷ more)) → HasEntryLines a b (drop (length run) (first ∷ more)) lines)
-    → HasEntryLines a b (first ∷ more) (line ∷ lines)
-next_line a b first more run line lines run_is up is lined =
+    → IsLineOf titles a b first.key run line
+    → (Ascends entry_key key_cmp key_cmp_total (drop (length run) (first ∷ more)) → HasEntryLines titles a b (drop (length run) (first ∷ more)) lines)
+    → HasEntryLines titles a b (first ∷ more) (line ∷ lines)
+next_line titles a b first more run line lines run_is up is lined =
     let k = first.key in
     let fr = IsFront-from_ascends entry_key key_cmp key_cmp_total k (first ∷ more) up (lowest entry_key key_cmp key_cmp_total first more up) in
     let at : drop (length run) (first ∷ more) ≡ after entry_key key_cmp key_cmp_total k (first ∷ more) = ap (λ ys. drop (length ys) (first ∷ more)) run_is in
-    HasLines-next entry_key key_cmp key_cmp_total line_key (IsLineOf a b) key_exact first more line lines up is.of_key
-    (subst (λ ys. IsLineOf a b k ys line) run_is is)
-    (subst (λ ys. HasEntryLines a b ys lines) at (lined (subst (Ascends entry_key key_cmp key_cmp_total) (sym at) fr.ascends)))
+    HasLines-next entry_key key_cmp key_cmp_total line_key (IsLineOf titles a b) key_exact first more line lines up is.of_key
+    (subst (λ ys. IsLineOf titles a b k ys line) run_is is)
+    (subst (λ ys. HasEntryLines titles a b ys lines) at (lined (subst (Ascends entry_key key_cmp key_cmp_total) (sym at) fr.ascends)))
 
-have_lines : (a b : ZonedCalendar) (entries : List Entry) (lines : List ReportLine) → Ascends entry_key key_cmp key_cmp_total entries
-    → AreLinesOf a b entries lines → HasEntryLines a b entries lines
-have_lines a b entries lines up AreLinesOf.none = HasLines-none entry_key key_cmp key_cmp_total line_key (IsLineOf a b)
-have_lines a b entries lines up (AreLinesOf.next _ run first line more_lines at is more) =
+have_lines : (titles : Bool) (a b : ZonedCalendar) (entries : List Entry) (lines : List ReportLine) → Ascends entry_key key_cmp key_cmp_total entries
+    → AreLinesOf titles a b entries lines → HasEntryLines titles a b entries lines
+have_lines titles a b entries lines up AreLinesOf.none = HasLines-none entry_key key_cmp key_cmp_total line_key (IsLineOf titles a b)
+have_lines titles a b entries lines up (AreLinesOf.next _ run first line more_lines at is more) =
     let e = at.begins in
-    subst (λ ys. HasEntryLines a b ys (line ∷ more_lines)) (sym e)
-    (next_line a b first at.more run line more_lines (subst (λ ys. run ≡ take_while (has_key first.key) ys) e at.run_is)
+    subst (λ ys. HasEntryLines titles a b ys (line ∷ more_lines)) (sym e)
+    (next_line titles a b first at.more run line more_lines (subst (λ ys. run ≡ take_while (has_key first.key) ys) e at.run_is)
     (subst (Ascends entry_key key_cmp key_cmp_total) e up) is
-    (λ up_rest. subst (λ ys. HasEntryLines a b (drop (length run) ys) more_lines) e
-    (have_lines a b (drop (length run) entries) more_lines
+    (λ up_rest. subst (λ ys. HasEntryLines titles a b (drop (length run) ys) more_lines) e
+    (have_lines titles a b (drop (length run) entries) more_lines
     (subst (λ ys. Ascends entry_key key_cmp key_cmp_total (drop (length run) ys)) (sym e) up_rest) more)))
 
 -- what is left from a place on, taken whole
@@ -133,13 +133,13 @@ pub whole_rest : (start : ℕ) (entries : List Entry) → take (length entries -
 whole_rest start entries = subst (λ n. take n (drop start entries) ≡ drop start entries) (length-drop start entries) (take-length (drop start entries))
 
 -- the lines so far are those of the entries before this place
-pub record IsUpTo (a b : ZonedCalendar) (entries : List Entry) (lines : List ReportLine) (start : ℕ) : Type 0 where
-  pub joins : (more : List ReportLine) → AreLinesOf a b (drop start entries) more → AreLinesOf a b entries (lines ++ more)
+pub record IsUpTo (titles : Bool) (a b : ZonedCalendar) (entries : List Entry) (lines : List ReportLine) (start : ℕ) : Type 0 where
+  pub joins : (more : List ReportLine) → AreLinesOf titles a b (drop start entries) more → AreLinesOf titles a b entries (lines ++ more)
   pub within : start ≤ length entries
 
-pub IsUpTo-start : (a b : ZonedCalendar) (entries : List Entry) (lines : List ReportLine) → lines ≡ [] → IsUpTo a b entries lines 0
-IsUpTo-start a b entries lines none = record {
-  joins = λ more are. subst (λ ls. AreLinesOf a b entries (ls ++ more)) (sym none) are;
+pub IsUpTo-start : (titles : Bool) (a b : ZonedCalendar) (entries : List Entry) (lines : List ReportLine) → lines ≡ [] → IsUpTo titles a b entries lines 0
+IsUpTo-start titles a b entries lines none = record {
+  joins = λ more are. subst (λ ls. AreLinesOf titles a b entries (ls ++ more)) (sym none) are;
   within = omega arith;
 }
 
@@ -153,20 +153,20 @@ run_length entries first run at =
     let t = length-take (prefix_len (has_key first.key) entries) entries in
     (omega (arith, ap length r), omega (arith, ap length at.run_is, t))
 
-pub IsUpTo-next : (a b : ZonedCalendar) (entries : List Entry) (lines : List ReportLine) (start : ℕ) (first : Entry) (run : List Entry) (line : ReportLine)
-    → IsRunAt (drop start entries) first run → IsLineOf a b first.key run line → IsUpTo a b entries lines start
-    → IsUpTo a b entries (lines ++ line ∷ []) (start + length run)
-IsUpTo-next a b entries lines start first run line at is so_far = record {
-  joins = λ more are. subst (AreLinesOf a b entries) (sym (append_assoc lines (line ∷ []) more))
+pub IsUpTo-next : (titles : Bool) (a b : ZonedCalendar) (entries : List Entry) (lines : List ReportLine) (start : ℕ) (first : Entry) (run : List Entry) (line : ReportLine)
+    → IsRunAt (drop start entries) first run → IsLineOf titles a b first.key run line → IsUpTo titles a b entries lines start
+    → IsUpTo titles a b entries (lines ++ line ∷ []) (start + length run)
+IsUpTo-next titles a b entries lines start first run line at is so_far = record {
+  joins = λ more are. subst (AreLinesOf titles a b entries) (sym (append_assoc lines (line ∷ []) more))
       (so_far.joins (line ∷ more) (AreLinesOf.next (drop start entries) run first line more at is
-      (subst (λ es. AreLinesOf a b es more) (sym (drop-drop (length run) start entries)) are)));
+      (subst (λ es. AreLinesOf titles a b es more) (sym (drop-drop (length run) start entries)) are)));
   within = omega (arith, so_far.within, run_length (drop start entries) first run at, length-drop start entries);
 }
 
-pub IsUpTo-end : (a b : ZonedCalendar) (entries : List Entry) (lines : List ReportLine) (start : ℕ) → IsUpTo a b entries lines start
-    → drop start entries ≡ [] → AreLinesOf a b entries lines
-IsUpTo-end a b entries lines start so_far none =
-    subst (AreLinesOf a b entries) (append-nil lines) (so_far.joins [] (subst (λ es. AreLinesOf a b es []) (sym none) AreLinesOf.none))
+pub IsUpTo-end : (titles : Bool) (a b : ZonedCalendar) (entries : List Entry) (lines : List ReportLine) (start : ℕ) → IsUpTo titles a b entries lines start
+    → drop start entries ≡ [] → AreLinesOf titles a b entries lines
+IsUpTo-end titles a b entries lines start so_far none =
+    subst (AreLinesOf titles a b entries) (append-nil lines) (so_far.joins [] (subst (λ es. AreLinesOf titles a b es []) (sym none) AreLinesOf.none))
 
 -- as many runs are counted as stand before this place
 pub record IsCountedTo (entries : List Entry) (count start : ℕ) : Type 0 where
@@ -262,13 +262,22 @@ module _ (a b : ZonedCalendar) (k : Key) where
       ∙ ap indexes_in (after_is of_a of_b in_a in_b) ∙ kept_indexes test B 0 b.keys
 
 -- what is said of the entries of a key is said of the events with it in each calendar
-said_of_keys : (a b : ZonedCalendar) (line : ReportLine) → IsLineOf a b line.key (filter (has_key line.key) (entries_of a.keys b.keys)) line
+said_of_keys : (titles : Bool) (a b : ZonedCalendar) (line : ReportLine) → IsLineOf titles a b line.key (filter (has_key line.key) (entries_of a.keys b.keys)) line
     → IsSaid a.means b.means (stated_at a line.key) (stated_at b line.key) line.said
-said_of_keys a b line is =
+said_of_keys titles a b line is =
     let k = line.key in
     subst (λ is'. IsSaid a.means b.means (stated_in a.stated is') (stated_at b k) line.said) (front_indexes a b k)
     (subst (λ is'. IsSaid a.means b.means (stated_in a.stated (indexes_in (front_of_a (filter (has_key k) (entries_of a.keys b.keys))))) (stated_in b.stated is') line.said)
     (after_indexes a b k) is.said)
+
+-- its title is that of the first of them
+title_of_keys : (titles : Bool) (a b : ZonedCalendar) (line : ReportLine)
+    → IsLineOf titles a b line.key (filter (has_key line.key) (entries_of a.keys b.keys)) line → line.title ≡ title_if titles (title_at a b line.key)
+title_of_keys titles a b line is =
+    let k = line.key in
+    is.titled
+    ∙ ap (λ is'. title_if titles (title_by a.titles b.titles is' (indexes_in (after_a (filter (has_key k) (entries_of a.keys b.keys)))))) (front_indexes a b k)
+    ∙ ap (λ is'. title_if titles (title_by a.titles b.titles (indexes_from (test a b k) 0 a.keys) is')) (after_indexes a b k)
 
 -- ---- keys of events
 
@@ -284,17 +293,18 @@ keys_of_entries a b =
 
 -- ---- the report
 
-pub is_report : (a b : ZonedCalendar) (sorted : List Entry) (lines : List ReportLine)
-    → IsSortedOf (entries_of a.keys b.keys) sorted → AreLinesOf a b sorted lines → IsReport a b lines
-is_report a b sorted lines order lined =
+pub is_report : (titles : Bool) (a b : ZonedCalendar) (sorted : List Entry) (lines : List ReportLine)
+    → IsSortedOf (entries_of a.keys b.keys) sorted → AreLinesOf titles a b sorted lines → IsReport titles a b lines
+is_report titles a b sorted lines order lined =
     let up = Ascends-from_sorted entry_key key_cmp key_cmp_total sorted order.rises in
-    let is = HasLines-given entry_key key_cmp key_cmp_total line_key (IsLineOf a b) (entries_of a.keys b.keys) sorted lines order.moved order.stable
-    (have_lines a b sorted lines up lined) in
+    let is = HasLines-given entry_key key_cmp key_cmp_total line_key (IsLineOf titles a b) (entries_of a.keys b.keys) sorted lines order.moved order.stable
+    (have_lines titles a b sorted lines up lined) in
     let same = keys_of_entries a.keys b.keys in
     record {
       rises = is.rises;
       every = subst (All (Contains (keys_of lines))) same (All-map (Contains (keys_of lines)) entry_key (entries_of a.keys b.keys) is.every);
       none_else = λ n d h. subst (λ ks. Contains ks (line_key (get_or lines n d))) same (is.none_else n d h);
-      said = λ n d h. said_of_keys a b (get_or lines n d) (is.said n d h);
+      said = λ n d h. said_of_keys titles a b (get_or lines n d) (is.said n d h);
+      titled = λ n d h. title_of_keys titles a b (get_or lines n d) (is.said n d h);
       printable = λ n d h. (is.said n d h).printable;
     }

@@ -1,5 +1,5 @@
 -- What is known of a key before its zones are looked at.
-use Rattle.std.proofs.Common.{◌≡◌, inl, inr, ℕ, ℤ, Bool, true, List, [], ◌∷◌, length, None, Some, Ok, Option, Result, refl, ap, sym, subst, ◌∙◌, arith}
+use Rattle.std.proofs.Common.{◌≡◌, inl, inr, ℤ, Bool, true, false, None, Some, Ok, Err, Option, Result, ap, sym, subst, ◌∙◌, arith}
 use Rattle.std.proofs.lemmas.Int.{ints}
 use Rattle.rr_days.specs.Sequence.{sketch}
 use Rattle.rr_decide.specs.Occurrence.{NamesUpToMaxDay}
@@ -23,11 +23,10 @@ use Rattle.rr_seam.specs.declared.refusal.KeyFault.{KeyFault}
 use Rattle.rr_seam.specs.declared.refusal.KeyFault.TheVariants as key_fault
 use Rattle.rr_seam.specs.declared.refusal.KeyRefusal.{KeyRefusal}
 use Rattle.rr_text.specs.Printed.{IsPrintable}
-use Rattle.rr_trip.specs.Judged.{IsFoldOf, IsKeyFault}
-use Rattle.rr_trip.specs.Pairs.{IsBeside, IsFaultTold, IsJudged, IsJudgedBoth, IsJudgedWith, IsKept, IsPair, IsPairOf, IsPairWith, IsSaidOfJudged, IsSound, days_b, days_beside, series_b, series_beside, zones_beside}
+use Rattle.rr_trip.specs.Judged.{IsFoldOf, IsKeyFault, IsKeyRefusal}
+use Rattle.rr_trip.specs.Pairs.{IsBeside, IsFaultTold, IsJudged, IsJudgedBoth, IsJudgedWith, IsKept, IsPairOf, IsPairWith, IsSaidOfJudged, IsSound, days_beside, series_b, series_beside, zones_beside}
 use Rattle.rr_trip.specs.Readings.{reading_of}
-use Rattle.rr_trip.specs.Report.{stated_in}
-use Rattle.rr_trip.specs.Said.{IsComparison, IsRefusedOn, IsSaid, IsSaidBy, IsSaidOfBoth}
+use Rattle.rr_trip.specs.Said.{IsAlikeTo, IsComparison, IsPrintableSaid, IsRefusedOn, IsSaid, IsSaidBy, IsSaidOfBoth, is_empty, is_nothing, said_alone, said_of_empty}
 use Rattle.rr_trip.specs.Zoned.{Meaning}
 use Rattle.rr_trip.specs.declared.judge.KeyDays.{KeyDays}
 use Rattle.rr_trip.specs.declared.pair.Beside.{Beside}
@@ -94,9 +93,14 @@ refused_with a b (key_fault.Refused r) judged is h = rw h is
 refused_with a b key_fault.NoMemory judged is h = absurd h
 
 -- the refusal of A
-pub refused_both : (a b : Stated) (fault : KeyFault) (judged : Judged) → IsKeyFault a fault → IsFaultTold A fault judged → IsJudgedBoth a b judged
-refused_both a b (key_fault.Refused r) judged is h = rw h is
-refused_both a b key_fault.NoMemory judged is h = absurd h
+pub refused_a : (a b : Stated) (r : KeyRefusal) (judged : Judged) → IsKeyRefusal a r → (IsAlikeTo a b → ⊥)
+    → judged ≡ Told (said.Refused A r) → IsJudgedBoth a b judged
+refused_a a b r judged is unlike h = rw h (record { refused = is; unlike = unlike })
+
+-- the refusal of both, in the same words
+pub refused_alike : (a b : Stated) (r : KeyRefusal) (judged : Judged) → IsKeyRefusal a r → IsAlikeTo a b → judged ≡ Told (said.Alike r)
+    → IsJudgedBoth a b judged
+refused_alike a b r judged is alike h = rw h (record { refused = is; alike = alike })
 
 -- the days of both are a pair
 pub pair_of : (a b : Stated) (days : KeyDays) (pair : KeyPair) → a.series ≡ Ok days.series → days.zones.items ≡ a.zones
@@ -122,40 +126,45 @@ judged_both a b days (Told (said.Refused A refusal)) states zones folded h = abs
 judged_both a b days (Told (said.Refused B refusal)) states zones folded h =
     record { series = days.series; first = record { states = states; unrefused = folded.unrefused }; refused = h }
 judged_both a b days (Told (said.Refused Both refusal)) states zones folded h = absurd h
+judged_both a b days (Told (said.Alike refusal)) states zones folded h = absurd h
 judged_both a b days (Told (said.Floating side)) states zones folded h = absurd h
 judged_both a b days (Told (said.Compared verdict zs)) states zones folded h = absurd h
 judged_both a b days (Compared pair) states zones folded h = pair_of a b days pair states zones folded h
 
 -- ---- a calendar without events of the key
 
-pub none_of_b : (a b : List ℕ → Stated) (is js : List ℕ) → length js ≡ 0 → IsJudged (stated_in a is) (stated_in b js) (Told (said.Only A))
-none_of_b a b is [] none = refl
-none_of_b a b is (j ∷ js) none = absurd (omega (arith, none))
+-- what is said of a series is said of the events that state it
+pub alone_is : (side : Side) (stated : Stated) (series : Series) → stated.series ≡ Ok series
+    → said_of_empty side (is_empty series) ≡ said_alone side stated
+alone_is side stated series e = ap (λ (r : Result Series KeyRefusal). said_of_empty side (is_nothing r)) (sym e)
 
-pub none_of_a : (a b : List ℕ → Stated) (is js : List ℕ) → length is ≡ 0 → (length js ≡ 0 → ⊥) → IsJudged (stated_in a is) (stated_in b js) (Told (said.Only B))
-none_of_a a b is [] none some = absurd (some refl)
-none_of_a a b [] (j ∷ js) none some = refl
-none_of_a a b (i ∷ is) (j ∷ js) none some = absurd (omega (arith, none))
-
-pub some_of_both : (a b : List ℕ → Stated) (is js : List ℕ) (judged : Judged) → (length is ≡ 0 → ⊥) → (length js ≡ 0 → ⊥)
-    → IsJudgedBoth (a is) (b js) judged → IsJudged (stated_in a is) (stated_in b js) judged
-some_of_both a b is [] judged na nb h = absurd (nb refl)
-some_of_both a b [] (j ∷ js) judged na nb h = absurd (na refl)
-some_of_both a b (i ∷ is) (j ∷ js) judged na nb h = h
+-- nothing is refused that is said to be empty
+pub refused_alone : (side : Side) (stated : Stated) (r : KeyRefusal) → stated.series ≡ Err r → said.Only side ≡ said_alone side stated
+refused_alone side stated r e = ap (λ (s : Result Series KeyRefusal). said_of_empty side (is_nothing s)) (sym e)
 
 -- ---- what is said of it
 
 sound_both : (a b : Stated) (judged : Judged) → IsJudgedBoth a b judged → IsSound judged
 sound_both a b (Told (said.Only side)) h = absurd h
 sound_both a b (Told (said.Refused side refusal)) h = tt
+sound_both a b (Told (said.Alike refusal)) h = tt
 sound_both a b (Told (said.Floating side)) h = absurd h
 sound_both a b (Told (said.Compared verdict zones)) h = absurd h
 sound_both a b (Compared pair) h = h.is_pair
 
+-- what is said of events of one calendar alone can be printed
+printable_alone : (side : Side) (empty : Bool) → IsPrintableSaid (said_of_empty side empty)
+printable_alone side true = (tt, tt)
+printable_alone side false = tt
+
+sound_alone : (side : Side) (stated : Stated) (judged : Judged) → judged ≡ Told (said_alone side stated) → IsSound judged
+sound_alone side stated judged h = subst IsSound (sym h) (printable_alone side (is_nothing stated.series))
+
 -- what is known of a key is sound
 pub sound : (a b : Option Stated) (judged : Judged) → IsJudged a b judged → IsSound judged
-sound a None judged h = rw h tt
-sound None (Some b) judged h = rw h tt
+sound None None judged h = rw h tt
+sound (Some a) None judged h = sound_alone A a judged h
+sound None (Some b) judged h = sound_alone B b judged h
 sound (Some a) (Some b) judged h = sound_both a b judged h
 
 -- what is said of a pair is said of what both state
@@ -173,18 +182,20 @@ module _ (ma mb : Meaning) (a b : Stated) where
   }
 
   refused : (side : Side) (refusal : KeyRefusal) (told : Said) → IsRefusedOn side a b refusal → told ≡ said.Refused side refusal → IsSaidOfBoth ma mb a b told
-  refused side refusal told h e = inl (record { side = side; refusal = refusal; refused = h; is = e })
+  refused side refusal told h e = inr (inl (record { side = side; refusal = refusal; refused = h; is = e }))
 
   said_both : (judged : Judged) (told : Said) → IsJudgedBoth a b judged → IsSaidOfJudged ma mb judged told → IsSaidOfBoth ma mb a b told
   said_both (Told (said.Only side)) told h e = absurd h
   said_both (Told (said.Refused side refusal)) told h e = refused side refusal told h e
+  said_both (Told (said.Alike refusal)) told h e = inl (record { refusal = refusal; alike = h; is = e })
   said_both (Told (said.Floating side)) told h e = absurd h
   said_both (Told (said.Compared verdict zones)) told h e = absurd h
-  said_both (Compared pair) told h e = inr (compared pair told h e)
+  said_both (Compared pair) told h e = inr (inr (compared pair told h e))
 
 -- what is said by what is known of a key is said of what its events state
 pub said_judged : (ma mb : Meaning) (a b : Option Stated) (judged : Judged) (told : Said) → IsJudged a b judged → IsSaidOfJudged ma mb judged told
     → IsSaid ma mb a b told
-said_judged ma mb a None judged told h e = subst (λ j. IsSaidOfJudged ma mb j told) h e
+said_judged ma mb None None judged told h e = subst (λ j. IsSaidOfJudged ma mb j told) h e
+said_judged ma mb (Some a) None judged told h e = subst (λ j. IsSaidOfJudged ma mb j told) h e
 said_judged ma mb None (Some b) judged told h e = subst (λ j. IsSaidOfJudged ma mb j told) h e
 said_judged ma mb (Some a) (Some b) judged told h e = said_both ma mb a b judged told h e

@@ -1,6 +1,6 @@
 -- What is said of a key by its zones.
 use Rattle.std.proofs.Common.{◌≡◌, inl, inr, ◌⊎◌, ℕ, ℤ, pos, neg_ℤ, ◌≤ℤ◌, ◌<ℤ◌, Bool, true, false, List, get_or, Option, None, Some, refl, ap, sym, subst, ◌∙◌, arith}
-use Rattle.std.specs.Prelude.{IfSome, option_map}
+use Rattle.std.specs.Prelude.{option_map}
 use Rattle.std.specs.Option.{is_some}
 use Rattle.std.proofs.lemmas.Bool.{true≢false}
 use Rattle.std.proofs.lemmas.Int.{ints}
@@ -25,7 +25,6 @@ use Rattle.rr_model.specs.Moment.Years.{IsFromYearOne}
 use Rattle.rr_model.proofs.YearLemmas.{from_year_one}
 use Rattle.rr_text.specs.Printed.{IsPrintableAt}
 use Rattle.rr_true.specs.Changes.{IsBelowDay}
-use Rattle.rr_true.specs.Apart.{AreApart}
 use Rattle.rr_true.specs.Moments.{local_at}
 use Rattle.rr_true.specs.Names.{Means}
 use Rattle.rr_true.specs.Occurrences.{TrueOf}
@@ -37,7 +36,7 @@ use Rattle.rr_trip.specs.Pairs.{IsPair, are_moments, days_b, series_b}
 use Rattle.rr_trip.specs.Readings.{Zone, reading_by}
 use Rattle.rr_trip.specs.Said.{ArePrintableZones, HasSome, IsComparedLocally, IsOnlyZones, IsPrintableAhead, IsPrintableSaid, IsSaidBy, IsSaidByMoments, ahead_at, ahead_by, zone_on}
 use Rattle.rr_trip.specs.Zoned.{Meaning, is_utc, meaning_of}
-use Rattle.rr_trip.specs.Zones.{IsSaidAt, IsToldAt, is_yes}
+use Rattle.rr_trip.specs.Zones.{IsSaidAt, is_yes}
 use Rattle.rr_trip.specs.declared.known.NamedZone.{NamedZone}
 use Rattle.rr_trip.specs.declared.pair.KeyPair.{KeyPair}
 use Rattle.rr_trip.specs.declared.said.Said.{Said}

@@ -13,7 +13,7 @@ use Rattle.rr_trip.specs.declared.report.ReportLine.{ReportLine}
 use Rattle.rr_trip.specs.declared.report.Status.{Status}
 use Rattle.rr_trip.specs.declared.report.Status.TheVariants as status
 use Rattle.rr_trip.specs.declared.said.Said.{Said}
-use Rattle.rr_trip.specs.declared.said.Said.TheVariants.{Only, Refused, Floating, Compared}
+use Rattle.rr_trip.specs.declared.said.Said.TheVariants.{Only, Refused, Alike, Floating, Compared}
 use Rattle.rr_trip.specs.declared.said.Zones.{Zones}
 use Rattle.rr_trip.specs.declared.said.Zones.TheVariants.{Local, Unknown, Moments}
 
@@ -21,6 +21,7 @@ use Rattle.rr_trip.specs.declared.said.Zones.TheVariants.{Local, Unknown, Moment
 abbrev pub is_equal : Said → Bool
 is_equal (Only side) = false
 is_equal (Refused side refusal) = false
+is_equal (Alike refusal) = false
 is_equal (Floating side) = false
 is_equal (Compared Yes zones) = true
 is_equal (Compared (No kind at side) zones) = false
@@ -29,6 +30,7 @@ is_equal (Compared (No kind at side) zones) = false
 abbrev pub differs : Said → Bool
 differs (Only side) = false
 differs (Refused side refusal) = false
+differs (Alike refusal) = false
 differs (Floating side) = true
 differs (Compared Yes zones) = false
 differs (Compared (No kind at side) zones) = true
@@ -44,6 +46,7 @@ is_same_side side other = false
 abbrev pub is_only : Side → Said → Bool
 is_only side (Only other) = is_same_side other side
 is_only side (Refused other refusal) = false
+is_only side (Alike refusal) = false
 is_only side (Floating other) = false
 is_only side (Compared verdict zones) = false
 
@@ -51,18 +54,28 @@ is_only side (Compared verdict zones) = false
 abbrev pub is_refused : Said → Bool
 is_refused (Only side) = false
 is_refused (Refused side refusal) = true
+is_refused (Alike refusal) = false
 is_refused (Floating side) = false
 is_refused (Compared verdict zones) = false
+
+-- both calendars refuse the events of the key and state them in the same words
+abbrev pub is_alike : Said → Bool
+is_alike (Only side) = false
+is_alike (Refused side refusal) = false
+is_alike (Alike refusal) = true
+is_alike (Floating side) = false
+is_alike (Compared verdict zones) = false
 
 -- a refusal is of a moment in UTC beside local time
 abbrev pub is_utc : KeyRefusal → Bool
 is_utc (key_refusal.Event UtcMoment place) = true
 is_utc refusal = false
 
--- the events of the key are refused for a moment in UTC beside local time
+-- the events of the key are refused, by one calendar or alike by both, for a moment in UTC beside local time
 abbrev pub is_in_utc : Said → Bool
 is_in_utc (Only side) = false
 is_in_utc (Refused side refusal) = is_utc refusal
+is_in_utc (Alike refusal) = is_utc refusal
 is_in_utc (Floating side) = false
 is_in_utc (Compared verdict zones) = false
 
@@ -76,6 +89,7 @@ may_differ (Moments ahead only_zones) = false
 abbrev pub is_unsure : Said → Bool
 is_unsure (Only side) = false
 is_unsure (Refused side refusal) = false
+is_unsure (Alike refusal) = false
 is_unsure (Floating side) = false
 is_unsure (Compared Yes zones) = may_differ zones
 is_unsure (Compared (No kind at side) zones) = false
@@ -87,6 +101,7 @@ is_counted counted.Differs said = differs said
 is_counted (counted.Only side) said = is_only side said
 is_counted counted.Refused said = is_refused said
 is_counted counted.Unsure said = is_unsure said
+is_counted counted.Alike said = is_alike said
 is_counted counted.InUtc said = is_in_utc said
 
 -- how many lines of a report say what the test asks for
@@ -103,9 +118,10 @@ counts_of lines = record {
   only_b = count_said (is_only B) lines;
   refused = count_said is_refused lines;
   zone = count_said is_unsure lines;
+  alike = count_said is_alike lines;
 }
 
--- how a comparison with these counts ends
+-- how a comparison with these counts ends: what is alike is no fault
 abbrev pub status_of : Counts → Status
 status_of counts =
     if nat_lt 0 counts.differs || (nat_lt 0 counts.only_a || nat_lt 0 counts.only_b) then status.Differs

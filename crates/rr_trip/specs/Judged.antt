@@ -1,5 +1,5 @@
 -- The events of a key in one calendar, as days (RFC 5545, section 3.8.5).
-use Rattle.std.specs.Prelude.{◌≡◌, ℕ, None, Some, Result, Ok, Err, ⊤}
+use Rattle.std.specs.Prelude.{◌≡◌, ℕ, Bool, true, false, None, Some, Result, Ok, Err, ⊤}
 use Rattle.rr_days.specs.Sequence.{sketch}
 use Rattle.rr_fold.specs.Judged.{all_limits}
 use Rattle.rr_model.specs.Moment.Years.{OccurFromYearOne}
@@ -49,6 +49,15 @@ IsRefusalBy place (Ok series) said = ⊥
 -- the events of a key in one calendar are refused so
 abbrev pub IsKeyRefusal : Stated → KeyRefusal → Type 0
 IsKeyRefusal stated said = IsRefusalBy stated.place stated.series said
+
+-- the events of a key in one calendar are refused
+abbrev pub IsRefused : Stated → Type 0
+IsRefused stated = (refusal : KeyRefusal) × IsKeyRefusal stated refusal
+
+-- whether this is so
+abbrev pub IsWhether : Type 0 → Bool → Type 0
+IsWhether P true = P
+IsWhether P false = P → ⊥
 
 -- a fault is the refusal of the key, or out of memory
 abbrev pub IsKeyFault : Stated → KeyFault → Type 0

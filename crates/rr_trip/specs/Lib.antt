@@ -12,3 +12,4 @@ pub mod Counts
 pub mod Printed
 pub mod Grid
 pub mod Shown
+pub mod Laws

@@ -16,7 +16,7 @@ use Rattle.rr_seam.specs.declared.refusal.KeyFault.{KeyFault}
 use Rattle.rr_seam.specs.declared.refusal.KeyFault.TheVariants as key_fault
 use Rattle.rr_trip.specs.Judged.{IsFoldOf, IsKeyRefusal}
 use Rattle.rr_trip.specs.Readings.{reading_of}
-use Rattle.rr_trip.specs.Said.{IsPrintableSaid, IsRefusedOn, IsSaidBy}
+use Rattle.rr_trip.specs.Said.{IsAlike, IsPrintableSaid, IsRefusedOn, IsSaidBy, said_alone}
 use Rattle.rr_trip.specs.Zoned.{Meaning}
 use Rattle.rr_trip.specs.declared.judge.KeyDays.{KeyDays}
 use Rattle.rr_trip.specs.declared.pair.Beside.{Beside}
@@ -105,16 +105,19 @@ IsJudgedWith a b (Told (said.Refused B refusal)) = IsKeyRefusal b refusal
 IsJudgedWith a b (Told told) = ⊥
 IsJudgedWith a b (Compared pair) = IsPairWith a b pair
 
--- what is known of a key that both calendars have: the refusal of A, otherwise that of B, otherwise the days of both
+-- what is known of a key that both calendars have: that both refuse it in the same words; otherwise the refusal of A, otherwise that of B,
+-- otherwise the days of both
 abbrev pub IsJudgedBoth : Stated → Stated → Judged → Type 0
 IsJudgedBoth a b (Told (said.Refused side refusal)) = IsRefusedOn side a b refusal
+IsJudgedBoth a b (Told (said.Alike refusal)) = IsAlike a b refusal
 IsJudgedBoth a b (Told told) = ⊥
 IsJudgedBoth a b (Compared pair) = IsPairOf a b pair
 
--- what is known of a key by what its events state, if they are some: if one calendar has none, that the other alone has some
+-- what is known of a key by what its events state, if they are some: if one calendar has none, what is said of those of the other
 abbrev pub IsJudged : Option Stated → Option Stated → Judged → Type 0
-IsJudged a None judged = judged ≡ Told (said.Only A)
-IsJudged None (Some b) judged = judged ≡ Told (said.Only B)
+IsJudged None None judged = judged ≡ Told (said.Only A)
+IsJudged (Some a) None judged = judged ≡ Told (said_alone A a)
+IsJudged None (Some b) judged = judged ≡ Told (said_alone B b)
 IsJudged (Some a) (Some b) judged = IsJudgedBoth a b judged
 
 -- what a fault of a key tells; out of memory tells nothing

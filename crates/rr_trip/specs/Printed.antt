@@ -1,5 +1,5 @@
 -- The lines of a report as they are printed.
-use Rattle.std.specs.Prelude.{⊤, ℕ, ◌+◌, ◌-◌, ◌/◌, ◌%◌, ◌==◌, nat_lt, Bool, true, false, not, ◌&&◌, ◌||◌, if◌then◌else◌, List, [], ◌∷◌, ◌++◌, codes, ℤ, pos, int_lt, nat_abs}
+use Rattle.std.specs.Prelude.{⊤, ℕ, ◌/◌, ◌%◌, ◌==◌, nat_lt, Bool, true, false, not, ◌&&◌, ◌||◌, if◌then◌else◌, List, [], ◌∷◌, ◌++◌, codes, Option, None, Some, ℤ, pos, int_lt, nat_abs}
 use Rattle.std.specs.Fmt.{decimal}
 use Rattle.rr_model.specs.Text.Moments.{decimal_of, extended_text}
 use Rattle.rr_model.specs.Text.Refusals.{refusal_text}
@@ -21,37 +21,34 @@ use Rattle.rr_trip.specs.Counts.{counts_of, is_equal, is_unsure}
 use Rattle.rr_trip.specs.declared.report.Counts.{Counts}
 use Rattle.rr_trip.specs.declared.report.ReportLine.{ReportLine}
 use Rattle.rr_trip.specs.declared.said.Said.{Said}
-use Rattle.rr_trip.specs.declared.said.Said.TheVariants.{Only, Refused, Floating, Compared}
+use Rattle.rr_trip.specs.declared.said.Said.TheVariants.{Only, Refused, Alike, Floating, Compared}
 use Rattle.rr_trip.specs.declared.said.Ahead.{Ahead}
 use Rattle.rr_trip.specs.declared.said.Ahead.TheVariants.{Utc, By}
 use Rattle.rr_trip.specs.declared.said.Zones.{Zones}
 use Rattle.rr_trip.specs.declared.said.Zones.TheVariants.{Local, Unknown, Moments}
 use Rattle.rr_text.specs.Printed.{IsPrintableAt, side_text}
+use Rattle.rr_title.specs.Title.{escaped_byte, title_text}
 
 -- ---- keys
-
--- a digit to the base of 16
-abbrev pub hex_digit : ℕ → ℕ
-hex_digit n = if nat_lt n 10 then 48 + n else 97 + (n - 10)
 
 -- a byte stands for itself: a visible character of ASCII that is no backslash
 abbrev pub is_plain : ℕ → Bool
 is_plain b = nat_lt 32 b && (nat_lt b 127 && not (b == 92))
 
 -- a byte as it stands, or as a backslash, an x and two digits
-abbrev pub escaped_byte : ℕ → List ℕ
-escaped_byte b = if is_plain b then b ∷ [] else 92 ∷ 120 ∷ hex_digit (b / 16) ∷ hex_digit (b % 16) ∷ []
+abbrev pub uid_byte : ℕ → List ℕ
+uid_byte b = if is_plain b then b ∷ [] else escaped_byte b
 
--- the text with each of its bytes escaped
-abbrev pub escaped_text : List ℕ → List ℕ
-escaped_text [] = []
-escaped_text (b ∷ bs) = escaped_byte b ++ escaped_text bs
+-- a UID as it is printed
+abbrev pub uid_text : List ℕ → List ℕ
+uid_text [] = []
+uid_text (b ∷ bs) = uid_byte b ++ uid_text bs
 
 -- a byte of a name that was asked for: a backslash stands as it is, since names are asked for as they are printed
 abbrev pub asked_byte : ℕ → List ℕ
-asked_byte b = if b == 92 then b ∷ [] else escaped_byte b
+asked_byte b = if b == 92 then b ∷ [] else uid_byte b
 
--- a name that was asked for, with each of its bytes escaped but for backslashes
+-- a name that was asked for, as UIDs are printed, but with backslashes as they stand
 abbrev pub asked_text : List ℕ → List ℕ
 asked_text [] = []
 asked_text (b ∷ bs) = asked_byte b ++ asked_text bs
@@ -60,7 +57,7 @@ asked_text (b ∷ bs) = asked_byte b ++ asked_text bs
 abbrev pub key_text : Key → List ℕ
 key_text (key.Line number) = codes "line " ++ decimal number
 key_text (key.Number number) = codes "event " ++ decimal number
-key_text (key.Uid uid) = escaped_text uid
+key_text (key.Uid uid) = uid_text uid
 
 -- ---- refusals
 
@@ -168,8 +165,14 @@ IsPrintableFurther ForEver = ⊤
 abbrev pub said_text : List ℕ → Said → List ℕ
 said_text key (Only side) = codes "only " ++ side_text side ++ codes " " ++ key
 said_text key (Refused side r) = codes "refused " ++ key ++ codes " " ++ side_text side ++ codes " " ++ key_refusal_text r
+said_text key (Alike r) = codes "alike " ++ key ++ codes " A " ++ key_refusal_text r
 said_text key (Floating side) = codes "differs " ++ key ++ codes " floating " ++ side_text side
 said_text key (Compared verdict zones) = verdict_text key verdict zones
+
+-- the title of a key as the last field of its line, between quotes; nothing if titles are not asked for
+abbrev pub title_field : Option (List ℕ) → List ℕ
+title_field None = []
+title_field (Some title) = codes " \"" ++ title_text title ++ codes "\""
 
 -- a line is printed if those of equal keys are left out, unless nobody can tell of one
 abbrev pub is_difference : Said → Bool
@@ -178,19 +181,23 @@ is_difference said = not (is_equal said) || is_unsure said
 -- the line of a key, or nothing where it is left out
 abbrev pub line_text : Bool → ReportLine → List ℕ
 line_text only_differences line =
-    if not only_differences || is_difference line.said then said_text (key_text line.key) line.said ++ codes "\n" else []
+    if not only_differences || is_difference line.said then said_text (key_text line.key) line.said ++ title_field line.title ++ codes "\n" else []
 
 -- the printed lines of the keys of a report
 abbrev pub lines_text : Bool → List ReportLine → List ℕ
 lines_text only_differences [] = []
 lines_text only_differences (line ∷ lines) = line_text only_differences line ++ lines_text only_differences lines
 
+-- how many keys are alike, the last of the counts, and the end of their line
+abbrev pub last_count_text : ℕ → List ℕ
+last_count_text alike = codes " alike " ++ decimal alike ++ codes "\n"
+
 -- the last printed line, which counts
 abbrev pub counts_text : Counts → List ℕ
 counts_text counts =
     codes "events " ++ decimal counts.events ++ codes " equal " ++ decimal counts.equal ++ codes " differs " ++ decimal counts.differs
     ++ codes " only-A " ++ decimal counts.only_a ++ codes " only-B " ++ decimal counts.only_b ++ codes " refused " ++ decimal counts.refused
-    ++ codes " zone " ++ decimal counts.zone ++ codes "\n"
+    ++ codes " zone " ++ decimal counts.zone ++ last_count_text counts.alike
 
 -- The report as it is printed: the lines of the keys, and the counts of all.
 unfoldable pub report_text : Bool → List ReportLine → List ℕ

@@ -6,11 +6,10 @@ use Rattle.rr_seam.specs.Keys.{is_same_key, key_lt}
 use Rattle.rr_seam.specs.Stated.{Stated}
 use Rattle.rr_seam.specs.declared.key.Key.{Key}
 use Rattle.rr_trip.specs.Entries.{has_key, indexes_in, is_of_a}
-use Rattle.rr_trip.specs.Pairs.{IsJudged}
 use Rattle.rr_trip.specs.Said.{IsPrintableSaid, IsSaid}
 use Rattle.rr_trip.specs.Zoned.{ZonedCalendar}
 use Rattle.rr_trip.specs.declared.entry.Entry.{Entry}
-use Rattle.rr_trip.specs.declared.pair.Judged.{Judged}
+use Rattle.rr_trip.specs.declared.entry.KeyIndexes.{KeyIndexes}
 use Rattle.rr_trip.specs.declared.report.ReportLine.{ReportLine}
 
 -- what the events of these indexes state together, if they are some
@@ -31,16 +30,32 @@ stated_by test calendar = stated_in calendar.stated (indexes_from test 0 calenda
 abbrev pub stated_at : ZonedCalendar → Key → Option Stated
 stated_at calendar key = stated_by (λ k. is_same_key k key) calendar
 
+-- the title of the first of these events in A, otherwise of the first of those in B, if there is one
+abbrev pub title_by : (ℕ → List ℕ) → (ℕ → List ℕ) → List ℕ → List ℕ → Option (List ℕ)
+title_by a b (i ∷ is) js = Some (a i)
+title_by a b [] (j ∷ js) = Some (b j)
+title_by a b [] [] = None
+
+-- the title, if titles are asked for
+abbrev pub title_if : Bool → Option (List ℕ) → Option (List ℕ)
+title_if titles title = if titles then title else None
+
+-- the title of the first event of a key in A, otherwise in B
+abbrev pub title_at : ZonedCalendar → ZonedCalendar → Key → Option (List ℕ)
+title_at a b key =
+    title_by a.titles b.titles (indexes_from (λ k. is_same_key k key) 0 a.keys) (indexes_from (λ k. is_same_key k key) 0 b.keys)
+
 -- the keys of a report's lines
 abbrev pub keys_of : List ReportLine → List Key
 keys_of lines = map (λ (line : ReportLine). line.key) lines
 
--- each key of either calendar has one line, in their order, and each line says what is so of its key
-pub record IsReport (a b : ZonedCalendar) (lines : List ReportLine) : Type 0 where
+-- each key of either calendar has one line, in their order, and each line says what is so of its key, with its title if titles are asked for
+pub record IsReport (titles : Bool) (a b : ZonedCalendar) (lines : List ReportLine) : Type 0 where
   pub rises : Rises key_lt (keys_of lines)
   pub every : All (Contains (keys_of lines)) (a.keys ++ b.keys)
   pub none_else : All (λ (line : ReportLine). Contains (a.keys ++ b.keys) line.key) lines
   pub said : All (λ (line : ReportLine). IsSaid a.means b.means (stated_at a line.key) (stated_at b line.key) line.said) lines
+  pub titled : All (λ (line : ReportLine). line.title ≡ title_if titles (title_at a b line.key)) lines
   pub printable : All (λ (line : ReportLine). IsPrintableSaid line.said) lines
 
 -- ---- lines of sorted entries
@@ -54,14 +69,16 @@ abbrev pub after_a : List Entry → List Entry
 after_a entries = drop (length (front_of_a entries)) entries
 
 -- the line of the entries of one key, those of A first
-pub record IsLineOf (a b : ZonedCalendar) (key : Key) (run : List Entry) (line : ReportLine) : Type 0 where
+pub record IsLineOf (titles : Bool) (a b : ZonedCalendar) (key : Key) (run : List Entry) (line : ReportLine) : Type 0 where
   pub of_key : line.key ≡ key
   pub said : IsSaid a.means b.means (stated_in a.stated (indexes_in (front_of_a run))) (stated_in b.stated (indexes_in (after_a run))) line.said
+  pub titled : line.title ≡ title_if titles (title_by a.titles b.titles (indexes_in (front_of_a run)) (indexes_in (after_a run)))
   pub printable : IsPrintableSaid line.said
 
--- what is known of the entries of one key, those of A first, before its zones are looked at
-abbrev pub IsRunJudged : (List ℕ → Stated) → (List ℕ → Stated) → List Entry → Judged → Type 0
-IsRunJudged a b run judged = IsJudged (stated_in a (indexes_in (front_of_a run))) (stated_in b (indexes_in (after_a run))) judged
+-- the indexes of the entries of one key, by calendar
+pub record AreIndexesOf (run : List Entry) (indexes : KeyIndexes) : Type 0 where
+  pub a : indexes.a.items ≡ indexes_in (front_of_a run)
+  pub b : indexes.b.items ≡ indexes_in (after_a run)
 
 -- entries begin with this run of one key, that of the first
 pub record IsRunAt (entries : List Entry) (first : Entry) (run : List Entry) : Type 0 where
@@ -76,8 +93,8 @@ pub data IsRunCount : List Entry → ℕ → Type 0 where
       → IsRunCount entries (1 + count)
 
 -- the lines of entries, run by run of one key
-pub data AreLinesOf (a b : ZonedCalendar) : List Entry → List ReportLine → Type 0 where
-  none : AreLinesOf a b [] []
+pub data AreLinesOf (titles : Bool) (a b : ZonedCalendar) : List Entry → List ReportLine → Type 0 where
+  none : AreLinesOf titles a b [] []
   next : (entries run : List Entry) (first : Entry) (line : ReportLine) (lines : List ReportLine)
-      → IsRunAt entries first run → IsLineOf a b first.key run line → AreLinesOf a b (drop (length run) entries) lines
-      → AreLinesOf a b entries (line ∷ lines)
+      → IsRunAt entries first run → IsLineOf titles a b first.key run line → AreLinesOf titles a b (drop (length run) entries) lines
+      → AreLinesOf titles a b entries (line ∷ lines)

@@ -1,6 +1,7 @@
 -- What is said of a key.
-use Rattle.std.specs.Prelude.{◌≡◌, ◌⊎◌, ℕ, ℤ, Bool, true, false, if◌then◌else◌, List, Option, None, Some, ⊤}
+use Rattle.std.specs.Prelude.{◌≡◌, ◌⊎◌, ℕ, ℤ, Bool, true, false, not, ◌&&◌, if◌then◌else◌, List, Option, None, Some, Result, Ok, Err, ⊤}
 use Rattle.rr_model.specs.Moment.{Occurrences}
+use Rattle.rr_model.specs.Rule.Validity.{is_absent}
 use Rattle.rr_model.specs.Series.Cycle.{series_cycle}
 use Rattle.rr_model.specs.Series.Occurrences.{Occurs}
 use Rattle.rr_model.specs.Sets.Verdict.{HaveEqualOccurrences, IsEqualVerdict}
@@ -12,23 +13,59 @@ use Rattle.rr_model.specs.declared.verdict.Side.TheVariants.{A, B, Both}
 use Rattle.rr_model.specs.declared.verdict.Verdict.{Verdict}
 use Rattle.rr_model.specs.declared.verdict.Verdict.TheVariants.{Yes, No}
 use Rattle.rr_seam.specs.Stated.{Stated}
+use Rattle.rr_seam.specs.Words.{are_same_words}
 use Rattle.rr_seam.specs.declared.refusal.KeyRefusal.{KeyRefusal}
 use Rattle.rr_text.specs.Printed.{IsPrintable, IsPrintableAt}
 use Rattle.rr_true.specs.Changes.{IsBelowDay}
 use Rattle.rr_true.specs.Moments.{local_at}
 use Rattle.rr_true.specs.Occurrences.{TrueOf}
 use Rattle.rr_utc.specs.Walks.{IsLong}
-use Rattle.rr_trip.specs.Judged.{IsKeyRefusal, IsKeySeries}
+use Rattle.rr_trip.specs.Judged.{IsKeyRefusal, IsKeySeries, IsRefused}
 use Rattle.rr_trip.specs.Readings.{Reading, Zone, reading_of}
 use Rattle.rr_trip.specs.Zoned.{Meaning, is_utc}
 use Rattle.rr_trip.specs.declared.said.Ahead.{Ahead}
 use Rattle.rr_trip.specs.declared.said.Ahead.TheVariants.{Utc, By}
 use Rattle.rr_trip.specs.declared.said.Said.{Said}
-use Rattle.rr_trip.specs.declared.said.Said.TheVariants.{Only, Refused, Floating, Compared}
+use Rattle.rr_trip.specs.declared.said.Said.TheVariants.{Only, Refused, Alike, Floating, Compared}
 use Rattle.rr_trip.specs.declared.said.Zones.{Zones}
 use Rattle.rr_trip.specs.declared.said.Zones.TheVariants.{Local, Unknown, Moments}
 
+-- ---- events of one calendar alone
+
+-- a series without rules and dates, whose start is no occurrence, as a cancelled event states it: nothing occurs in it
+abbrev pub is_empty : Series → Bool
+is_empty series = not series.start_counts && (is_absent series.rules && (is_absent series.excluded && is_absent series.plus))
+
+-- events state a series in which nothing occurs, by its form
+abbrev pub is_nothing : Result Series KeyRefusal → Bool
+is_nothing (Ok series) = is_empty series
+is_nothing (Err refusal) = false
+
+-- what is said of events that this calendar alone has, if nothing occurs in what they state, and if not
+abbrev pub said_of_empty : Side → Bool → Said
+said_of_empty side true = Compared Yes Local
+said_of_empty side false = Only side
+
+-- What is said of events that this calendar alone has: that it alone has them, unless they state a series in which nothing occurs, as
+-- those of a cancelled event do; then both calendars have equal occurrences, none.
+abbrev pub said_alone : Side → Stated → Said
+said_alone side stated = said_of_empty side (is_nothing stated.series)
+
 -- ---- refusals
+
+-- B refuses the events of a key, and both calendars state them in the same words
+abbrev pub IsAlikeTo : Stated → Stated → Type 0
+IsAlikeTo a b = (are_same_words a.words b.words ≡ true) × IsRefused b
+
+-- both calendars refuse the events of a key, and state them in the same words; the refusal is that of A
+pub record IsAlike (a b : Stated) (refusal : KeyRefusal) : Type 0 where
+  pub refused : IsKeyRefusal a refusal
+  pub alike : IsAlikeTo a b
+
+-- the events of A are refused, and those of B are not refused in the same words
+pub record IsRefusedFirst (a b : Stated) (refusal : KeyRefusal) : Type 0 where
+  pub refused : IsKeyRefusal a refusal
+  pub unlike : IsAlikeTo a b → ⊥
 
 -- the events of B are refused, while those of A state a series
 pub record IsSecondRefusal (a b : Stated) (refusal : KeyRefusal) : Type 0 where
@@ -38,7 +75,7 @@ pub record IsSecondRefusal (a b : Stated) (refusal : KeyRefusal) : Type 0 where
 
 -- the events of a key are refused on this side: A's, or, if those state a series, B's
 abbrev pub IsRefusedOn : Side → Stated → Stated → KeyRefusal → Type 0
-IsRefusedOn A a b refusal = IsKeyRefusal a refusal
+IsRefusedOn A a b refusal = IsRefusedFirst a b refusal
 IsRefusedOn B a b refusal = IsSecondRefusal a b refusal
 IsRefusedOn Both a b refusal = ⊥
 
@@ -48,6 +85,12 @@ pub record IsSaidRefused (a b : Stated) (said : Said) : Type 0 where
   pub refusal : KeyRefusal
   pub refused : IsRefusedOn side a b refusal
   pub is : said ≡ Refused side refusal
+
+-- it is said that both calendars refuse the events of a key and state them in the same words
+pub record IsSaidAlike (a b : Stated) (said : Said) : Type 0 where
+  pub refusal : KeyRefusal
+  pub alike : IsAlike a b refusal
+  pub is : said ≡ Alike refusal
 
 -- ---- by local times
 
@@ -135,15 +178,17 @@ pub record IsComparison (means_a means_b : Meaning) (a b : Stated) (said : Said)
   pub second : IsKeySeries b series_b
   pub is_said : IsSaidBy (reading_of means_a means_b series_a.kind series_b.kind a.zones b.zones) series_a series_b said
 
--- what is said of a key that both calendars have: the refusal of A, otherwise that of B, otherwise whether their occurrences are equal
+-- what is said of a key that both calendars have: that both refuse it in the same words; otherwise the refusal of A, otherwise that of B,
+-- otherwise whether their occurrences are equal
 abbrev pub IsSaidOfBoth : Meaning → Meaning → Stated → Stated → Said → Type 0
-IsSaidOfBoth means_a means_b a b said = IsSaidRefused a b said ⊎ IsComparison means_a means_b a b said
+IsSaidOfBoth means_a means_b a b said = IsSaidAlike a b said ⊎ (IsSaidRefused a b said ⊎ IsComparison means_a means_b a b said)
 
 -- What is said of a key by what its events state in A and in B, if they are some, and by what the names of zones mean there: if one
--- calendar has none, that the other alone has some.
+-- calendar has none, what is so of those of the other.
 abbrev pub IsSaid : Meaning → Meaning → Option Stated → Option Stated → Said → Type 0
-IsSaid means_a means_b a None said = said ≡ Only A
-IsSaid means_a means_b None (Some b) said = said ≡ Only B
+IsSaid means_a means_b None None said = said ≡ Only A
+IsSaid means_a means_b (Some a) None said = said ≡ said_alone A a
+IsSaid means_a means_b None (Some b) said = said ≡ said_alone B b
 IsSaid means_a means_b (Some a) (Some b) said = IsSaidOfBoth means_a means_b a b said
 
 -- ---- what can be printed
@@ -163,5 +208,6 @@ ArePrintableZones (Moments ahead only_zones) = IsPrintableAhead ahead
 abbrev pub IsPrintableSaid : Said → Type 0
 IsPrintableSaid (Only side) = ⊤
 IsPrintableSaid (Refused side refusal) = ⊤
+IsPrintableSaid (Alike refusal) = ⊤
 IsPrintableSaid (Floating side) = ⊤
 IsPrintableSaid (Compared verdict zones) = IsPrintable verdict × ArePrintableZones zones

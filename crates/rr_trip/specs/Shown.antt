@@ -1,5 +1,6 @@
 -- What is shown of the events that are printed by one name.
-use Rattle.std.specs.Prelude.{◌≡◌, ◌⊎◌, ⊤, ℕ, ℤ, Bool, true, false, if◌then◌else◌, bytes_eq, List, [], ◌∷◌, ◌++◌, codes, None, Some, Ok}
+use Rattle.std.specs.Prelude.{◌≡◌, ◌⊎◌, ⊤, ℕ, ◌+◌, ℤ, Bool, true, false, if◌then◌else◌, bytes_eq, List, [], ◌∷◌, ◌++◌, codes, Option, None, Some, Ok}
+use Rattle.std.specs.List.{list_all}
 use Rattle.rr_differ.specs.Further.{IsFurther}
 use Rattle.rr_differ.specs.declared.further.Further.{Further}
 use Rattle.rr_model.specs.Moment.{day_part}
@@ -9,12 +10,14 @@ use Rattle.rr_model.specs.declared.rule.Series.{Series}
 use Rattle.rr_model.specs.declared.sketch.Sketch.{Sketch}
 use Rattle.rr_model.specs.declared.verdict.Verdict.{Verdict}
 use Rattle.rr_model.specs.declared.verdict.Verdict.TheVariants.{Yes, No}
+use Rattle.rr_seam.specs.Keys.{is_same_key}
 use Rattle.rr_seam.specs.Stated.{Stated}
 use Rattle.rr_seam.specs.declared.key.Key.{Key}
+use Rattle.rr_title.specs.Title.{title_text}
 use Rattle.rr_trip.specs.Grid.{HasPicture, IsPictureOf}
 use Rattle.rr_trip.specs.Judged.{IsFoldOf}
-use Rattle.rr_trip.specs.Printed.{asked_text, further_text, key_text, said_text}
-use Rattle.rr_trip.specs.Report.{indexes_from, stated_in}
+use Rattle.rr_trip.specs.Printed.{asked_text, further_text, key_text, said_text, title_field}
+use Rattle.rr_trip.specs.Report.{indexes_from, stated_in, title_by, title_if}
 use Rattle.rr_trip.specs.Pairs.{IsSaidOfJudged, days_b}
 use Rattle.rr_trip.specs.Said.{IsSaid}
 use Rattle.rr_trip.specs.Zoned.{Meaning, ZonedCalendar}
@@ -43,9 +46,47 @@ are_none [] [] = true
 are_none [] (j ∷ js) = false
 are_none (i ∷ is) js = false
 
--- the indexes of the events of a calendar whose key is printed so
-abbrev pub indexes_named : List ℕ → ZonedCalendar → List ℕ
-indexes_named name calendar = indexes_from (is_key_named name) 0 calendar.keys
+-- the indexes of the events of these keys whose key is printed so
+abbrev pub indexes_named : List ℕ → List Key → List ℕ
+indexes_named name keys = indexes_from (is_key_named name) 0 keys
+
+-- ---- the name that is shown
+
+-- a title, which is not empty, is printed as this name
+abbrev pub is_titled : List ℕ → List ℕ → Bool
+is_titled name [] = false
+is_titled name (b ∷ bs) = bytes_eq (title_text (b ∷ bs)) name
+
+-- the key of an event, if its title is printed so
+abbrev pub titled_part : List ℕ → List ℕ → Key → List Key
+titled_part name title key = if is_titled name title then key ∷ [] else []
+
+-- the keys of the events whose title is printed so, of these keys, whose indexes count from this one on
+abbrev pub keys_titled : List ℕ → (ℕ → List ℕ) → ℕ → List Key → List Key
+keys_titled name titles n [] = []
+keys_titled name titles n (k ∷ ks) = titled_part name (titles n) k ++ keys_titled name titles (n + 1) ks
+
+-- the one key that all of them are, if there is one
+abbrev pub one_key : List Key → Option Key
+one_key [] = None
+one_key (key ∷ keys) = if list_all (is_same_key key) keys then Some key else None
+
+-- the name of a key as it is printed; without a key this one
+abbrev pub name_of : List ℕ → Option Key → List ℕ
+name_of name None = name
+name_of name (Some key) = key_text key
+
+-- the name that is shown if no key of A and none of B is printed as the one that was asked for: that of the one key whose events have
+-- it as their title
+abbrev pub name_by_title : List Key → (ℕ → List ℕ) → List Key → (ℕ → List ℕ) → List ℕ → List ℕ
+name_by_title a titles_a b titles_b name = name_of name (one_key (keys_titled name titles_a 0 a ++ keys_titled name titles_b 0 b))
+
+-- the name that is shown: the one that was asked for, if a key is printed so
+abbrev pub shown_name : List Key → (ℕ → List ℕ) → List Key → (ℕ → List ℕ) → List ℕ → List ℕ
+shown_name a titles_a b titles_b name =
+    if are_none (indexes_named name a) (indexes_named name b) then name_by_title a titles_a b titles_b name else name
+
+-- ---- how it ends
 
 -- how it ends if local times are equal and this is said of the zones
 abbrev pub equal_status : Zones → Status
@@ -57,6 +98,7 @@ equal_status (zones.Moments ahead only_zones) = Equal
 abbrev pub said_status : Said → Status
 said_status (said.Only side) = Differs
 said_status (said.Refused side refusal) = Refused
+said_status (said.Alike refusal) = Equal
 said_status (said.Floating side) = Differs
 said_status (said.Compared Yes zones) = equal_status zones
 said_status (said.Compared (No kind at side) zones) = Differs
@@ -103,15 +145,18 @@ pub record TellsOfBoth (a b : Stated) (text : List ℕ) : Type 0 where
   pub is_verdict : IsEqualVerdict (StandsIn days_a) (StandsIn days_b) verdict
   pub tells : IsToldBy verdict days_a days_b text
 
--- one calendar alone has events of the key, or they are refused
+-- the events of the key are refused
 abbrev pub IsUncompared : Said → Type 0
-IsUncompared (said.Only side) = ⊤
 IsUncompared (said.Refused side refusal) = ⊤
+IsUncompared (said.Alike refusal) = ⊤
 IsUncompared said = ⊥
 
--- what is told below the line if this is said of the events of a key: where their local times differ, if they are compared
-abbrev pub IsPictureFor : Stated → Stated → Said → List ℕ → Type 0
-IsPictureFor a b said text = (IsUncompared said × (text ≡ [])) ⊎ TellsOfBoth a b text
+-- what is told below the line if this is said of the events of a key: where their local times differ, if both calendars have some and
+-- they are compared
+abbrev pub IsPictureFor : Option Stated → Option Stated → Said → List ℕ → Type 0
+IsPictureFor a None said text = text ≡ []
+IsPictureFor None (Some b) said text = text ≡ []
+IsPictureFor (Some a) (Some b) said text = (IsUncompared said × (text ≡ [])) ⊎ TellsOfBoth a b text
 
 -- what is told below the line by what is known of a key
 abbrev pub IsPictureOfJudged : Judged → List ℕ → Type 0
@@ -120,32 +165,37 @@ IsPictureOfJudged (judged.Compared pair) text = IsToldBy pair.local (sketch pair
 
 -- ---- what is shown
 
--- what is shown of a key that is printed so, by what is known of it before its zones are looked at
-pub record IsShownBy (means_a means_b : Meaning) (judged : Judged) (name : List ℕ) (shown : Shown) : Type 0 where
+-- what is shown of a key that is printed so, by what is known of it before its zones are looked at, with this title
+pub record IsShownBy (means_a means_b : Meaning) (judged : Judged) (title : Option (List ℕ)) (name : List ℕ) (shown : Shown) : Type 0 where
   pub said : Said
   pub more : List ℕ
   pub is_said : IsSaidOfJudged means_a means_b judged said
   pub tells : shown.said ≡ Some said
   pub status : shown.status ≡ said_status said
-  pub text : shown.text.items ≡ (said_text name said ++ codes "\n") ++ more
+  pub text : shown.text.items ≡ (said_text name said ++ title_field title ++ codes "\n") ++ more
   pub picture : IsPictureOfJudged judged more
 
--- the first line that is shown says what is so of the events of these indexes in A and in B, and behind it stands the picture
-pub record IsShownSaid (a b : ZonedCalendar) (is js : List ℕ) (name : List ℕ) (shown : Shown) : Type 0 where
+-- the first line that is shown says what is so of the events of these indexes in A and in B, with the title of the first of them if titles
+-- are asked for, and behind it stands the picture
+pub record IsShownSaid (titles : Bool) (a b : ZonedCalendar) (is js : List ℕ) (name : List ℕ) (shown : Shown) : Type 0 where
   pub said : Said
   pub more : List ℕ
   pub is_said : IsSaid a.means b.means (stated_in a.stated is) (stated_in b.stated js) said
   pub tells : shown.said ≡ Some said
   pub status : shown.status ≡ said_status said
-  pub text : shown.text.items ≡ (said_text name said ++ codes "\n") ++ more
-  pub picture : IsPictureFor (a.stated is) (b.stated js) said more
+  pub text : shown.text.items ≡ (said_text name said ++ title_field (title_if titles (title_by a.titles b.titles is js)) ++ codes "\n") ++ more
+  pub picture : IsPictureFor (stated_in a.stated is) (stated_in b.stated js) said more
 
 -- what is shown of the events of these indexes in A and in B, which have this name
-abbrev pub IsShownOf : ZonedCalendar → ZonedCalendar → List ℕ → List ℕ → List ℕ → Shown → Type 0
-IsShownOf a b [] [] name shown = IsUnknown name shown
-IsShownOf a b (i ∷ is) js name shown = IsShownSaid a b (i ∷ is) js name shown
-IsShownOf a b [] (j ∷ js) name shown = IsShownSaid a b [] (j ∷ js) name shown
+abbrev pub IsShownOf : Bool → ZonedCalendar → ZonedCalendar → List ℕ → List ℕ → List ℕ → Shown → Type 0
+IsShownOf titles a b [] [] name shown = IsUnknown name shown
+IsShownOf titles a b (i ∷ is) js name shown = IsShownSaid titles a b (i ∷ is) js name shown
+IsShownOf titles a b [] (j ∷ js) name shown = IsShownSaid titles a b [] (j ∷ js) name shown
 
--- What is shown of the events of a name in two calendars.
-abbrev pub IsShownIn : ZonedCalendar → ZonedCalendar → List ℕ → Shown → Type 0
-IsShownIn a b name shown = IsShownOf a b (indexes_named name a) (indexes_named name b) name shown
+-- what is shown of the events whose key is printed as a name
+abbrev pub IsShownNamed : Bool → ZonedCalendar → ZonedCalendar → List ℕ → Shown → Type 0
+IsShownNamed titles a b name shown = IsShownOf titles a b (indexes_named name a.keys) (indexes_named name b.keys) name shown
+
+-- What is shown of the events of a name in two calendars: a key's as it is printed, otherwise the title of one key's events.
+abbrev pub IsShownIn : Bool → ZonedCalendar → ZonedCalendar → List ℕ → Shown → Type 0
+IsShownIn titles a b name shown = IsShownNamed titles a b (shown_name a.keys a.titles b.keys b.titles name) shown

@@ -8,15 +8,16 @@ use Rattle.rr_true.specs.Occurrences.{utc}
 abbrev pub Meaning : Type 0
 Meaning = List ℕ → Option (ℤ → ℤ)
 
--- a calendar, and what the names of its zones mean
+-- a calendar: its keys, what its events state, their titles, and what the names of its zones mean
 pub record ZonedCalendar : Type 0 where
   pub keys : List Key
   pub stated : List ℕ → Stated
+  pub titles : ℕ → List ℕ
   pub means : Meaning
 
 -- a calendar whose names mean this
 abbrev pub zoned : Calendar → Meaning → ZonedCalendar
-zoned calendar means = record { keys = calendar.keys; stated = calendar.stated; means = means }
+zoned calendar means = record { keys = calendar.keys; stated = calendar.stated; titles = calendar.titles; means = means }
 
 -- the name of UTC
 abbrev pub is_utc : List ℕ → Bool

@@ -3,17 +3,18 @@ ghost use Rattle.std.specs.Prelude.{◌≡◌, [], IfOk, MatchOption, OnOk};
 ghost use Rattle.rr_seam.specs.Stated.{calendar_by};
 ghost use Rattle.rr_trip.specs.Known.{AreKnown};
 ghost use Rattle.rr_trip.specs.Pairs.{IsSaidOfJudged, IsSound};
-ghost use Rattle.rr_trip.specs.Report.{AreLinesOf, IsLineOf, IsReport, IsRunAt, IsRunCount, IsRunJudged};
+ghost use Rattle.rr_trip.specs.Report.{AreLinesOf, IsLineOf, IsReport, IsRunAt, IsRunCount};
 ghost use Rattle.rr_trip.specs.Said.{IsPrintableSaid};
 ghost use Rattle.rr_trip.specs.Zoned.{zoned};
 
-use crate::entry::{Entry, count_of_a, count_of_key, indexes_of, sorted_entries};
+use crate::entry::{Entry, count_of_key, indexes_of_run, sorted_entries};
 use crate::known::KnownZones;
 use crate::pair::{Judged, judge_key};
 use crate::report::{Report, ReportLine};
+use crate::title::title_of;
 use crate::watch::Watch;
 use crate::zones::said_of;
-use rr_model::NoMemory;
+use rr_model::{Bytes, NoMemory};
 use rr_seam::{EventFile, Key, copy_key};
 use rr_true::ZoneNames;
 use std::alloc::Global;
@@ -51,22 +52,7 @@ fn count_keys(entries: &[Entry]) -> usize
     count
 }
 
-// What is known of a run of one key, whose entries of A come first, before its zones are looked at.
-fn judged_run<A: EventFile, B: EventFile>(
-    alloc: Global,
-    a: &A,
-    b: &B,
-    run: &[Entry],
-) -> Result<Judged, NoMemory>
-    ensures { IfOk result (IsRunJudged (A.stated a.now) (B.stated b.now) run.now) }
-{
-    let (of_a, of_b) = run.split_at(count_of_a(run));
-    let of_a = indexes_of(alloc, of_a)?;
-    let of_b = indexes_of(alloc, of_b)?;
-    judge_key(alloc, a, &of_a, b, &of_b)
-}
-
-// The line of this key, by what is known of it.
+// The line of this key, by what is known of it, with this title.
 fn line_of<M: ZoneNames, N: ZoneNames>(
     alloc: Global,
     known: &mut KnownZones,
@@ -74,18 +60,19 @@ fn line_of<M: ZoneNames, N: ZoneNames>(
     names_b: &N,
     key: &Key,
     judged: &Judged,
+    title: Option<Bytes>,
 ) -> Result<ReportLine, NoMemory>
     requires known { AreKnown (M.meaning names_a.now) (N.meaning names_b.now) known.old }
     requires judged { IsSound judged.now }
     ensures known { OnOk result
         (AreKnown (M.meaning names_a.now) (N.meaning names_b.now) known.new) }
-    ensures line { IfOk result (λ line. (line.key ≡ key.now)
+    ensures line { IfOk result (λ line. (line.key ≡ key.now) × (line.title ≡ title)
         × IsSaidOfJudged (M.meaning names_a.now) (N.meaning names_b.now) judged.now line.said
         × IsPrintableSaid line.said) }
 {
     let key = copy_key(alloc, key)?;
     let said = said_of(alloc, known, names_a, names_b, judged)?;
-    Ok(ReportLine { key, said })
+    Ok(ReportLine { key, said, title })
 }
 
 // The line of a run, whose entries of A come first.
@@ -97,17 +84,28 @@ fn line_of_run<A: EventFile, B: EventFile, M: ZoneNames, N: ZoneNames>(
     b: &B,
     names_b: &N,
     run: Run<'_>,
+    titles: bool,
 ) -> Result<ReportLine, NoMemory>
     requires { AreKnown (M.meaning names_a.now) (N.meaning names_b.now) known.old }
     ensures known { OnOk result
         (AreKnown (M.meaning names_a.now) (N.meaning names_b.now) known.new) }
-    ensures line { IfOk result (IsLineOf
-        (zoned (calendar_by (A.keys a.now) (A.stated a.now)) (M.meaning names_a.now))
-        (zoned (calendar_by (B.keys b.now) (B.stated b.now)) (N.meaning names_b.now))
+    ensures line { IfOk result (IsLineOf titles
+        (zoned (calendar_by (A.keys a.now) (A.stated a.now) (A.titles a.now)) (M.meaning names_a.now))
+        (zoned (calendar_by (B.keys b.now) (B.stated b.now) (B.titles b.now)) (N.meaning names_b.now))
         run.entry.first.now.key run.entry.entries.now) }
 {
-    let judged = judged_run(alloc, a, b, run.entries)?;
-    line_of(alloc, known, names_a, names_b, &run.first.key, &judged)
+    let indexes = indexes_of_run(alloc, run.entries)?;
+    let judged = judge_key(alloc, a, &indexes.a, b, &indexes.b)?;
+    let title = title_of(alloc, titles, a, &indexes.a, b, &indexes.b)?;
+    line_of(
+        alloc,
+        known,
+        names_a,
+        names_b,
+        &run.first.key,
+        &judged,
+        title,
+    )
 }
 
 // What is said of each key of sorted entries.
@@ -118,11 +116,12 @@ fn lines_of<A: EventFile, B: EventFile, M: ZoneNames, N: ZoneNames, W: Watch>(
     b: &B,
     names_b: &N,
     entries: &[Entry],
+    titles: bool,
     watch: &mut W,
 ) -> Result<Vec<ReportLine>, NoMemory>
-    ensures { IfOk result (λ lines. AreLinesOf
-        (zoned (calendar_by (A.keys a.now) (A.stated a.now)) (M.meaning names_a.now))
-        (zoned (calendar_by (B.keys b.now) (B.stated b.now)) (N.meaning names_b.now))
+    ensures { IfOk result (λ lines. AreLinesOf titles
+        (zoned (calendar_by (A.keys a.now) (A.stated a.now) (A.titles a.now)) (M.meaning names_a.now))
+        (zoned (calendar_by (B.keys b.now) (B.stated b.now) (B.titles b.now)) (N.meaning names_b.now))
         entries.now lines.items) }
 {
     let keys = count_keys(entries);
@@ -130,7 +129,7 @@ fn lines_of<A: EventFile, B: EventFile, M: ZoneNames, N: ZoneNames, W: Watch>(
     let mut lines = Vec::new(alloc);
     let mut start = 0;
     while let Some(run) = first_run(&entries[start..]) {
-        let line = line_of_run(alloc, &mut known, a, names_a, b, names_b, run)?;
+        let line = line_of_run(alloc, &mut known, a, names_a, b, names_b, run, titles)?;
         lines.push(line)?;
         start += run.entries.len();
         watch.on_judged(lines.len(), keys);
@@ -145,36 +144,39 @@ fn report_of<A: EventFile, B: EventFile, M: ZoneNames, N: ZoneNames, W: Watch>(
     names_a: &M,
     b: &B,
     names_b: &N,
+    titles: bool,
     watch: &mut W,
 ) -> Result<Report, NoMemory>
-    ensures { IfOk result (λ report. IsReport
-        (zoned (calendar_by (A.keys a.now) (A.stated a.now)) (M.meaning names_a.now))
-        (zoned (calendar_by (B.keys b.now) (B.stated b.now)) (N.meaning names_b.now))
+    ensures { IfOk result (λ report. IsReport titles
+        (zoned (calendar_by (A.keys a.now) (A.stated a.now) (A.titles a.now)) (M.meaning names_a.now))
+        (zoned (calendar_by (B.keys b.now) (B.stated b.now) (B.titles b.now)) (N.meaning names_b.now))
         report.lines.items) }
 {
     let entries = sorted_entries(alloc, a, b)?;
     Ok(Report {
-        lines: lines_of(alloc, a, names_a, b, names_b, &entries, watch)?,
+        lines: lines_of(alloc, a, names_a, b, names_b, &entries, titles, watch)?,
     })
 }
 
 /// Compares two calendars, each in its language, by what the names of zones mean in each: each key of either has one line, in
-/// the order of the keys, which says what is so of its events. What a name means is asked once of each calendar. The watch is
-/// told of each key that is judged, and that the comparison has ended.
+/// the order of the keys, which says what is so of its events; if titles are asked for, with the title of its first event in A,
+/// otherwise in B. What a name means is asked once of each calendar. The watch is told of each key that is judged, and that the
+/// comparison has ended.
 pub fn compare<A: EventFile, B: EventFile, M: ZoneNames, N: ZoneNames, W: Watch>(
     alloc: Global,
     a: &A,
     names_a: &M,
     b: &B,
     names_b: &N,
+    titles: bool,
     watch: &mut W,
 ) -> Result<Report, NoMemory>
-    ensures { IfOk result (λ report. IsReport
-        (zoned (calendar_by (A.keys a.now) (A.stated a.now)) (M.meaning names_a.now))
-        (zoned (calendar_by (B.keys b.now) (B.stated b.now)) (N.meaning names_b.now))
+    ensures { IfOk result (λ report. IsReport titles
+        (zoned (calendar_by (A.keys a.now) (A.stated a.now) (A.titles a.now)) (M.meaning names_a.now))
+        (zoned (calendar_by (B.keys b.now) (B.stated b.now) (B.titles b.now)) (N.meaning names_b.now))
         report.lines.items) }
 {
-    let answered = report_of(alloc, a, names_a, b, names_b, watch);
+    let answered = report_of(alloc, a, names_a, b, names_b, titles, watch);
     watch.on_ended();
     answered
 }

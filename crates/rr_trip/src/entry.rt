@@ -1,5 +1,6 @@
 // The events of both calendars, sorted by their keys.
 ghost use Rattle.std.specs.Prelude.{◌≡◌, ◌++◌, length, take_while, IfOk, OnOk};
+ghost use Rattle.rr_trip.specs.Report.{AreIndexesOf};
 ghost use Rattle.rr_trip.specs.Entries.{IsSortedOf, entries_from, entries_of, has_key, indexes_in, is_of_a};
 
 use rr_model::{NoMemory, Side};
@@ -60,8 +61,8 @@ pub fn count_of_key(key: &Key, entries: &[Entry]) -> usize
         .count()
 }
 
-/// How many entries at the front are of A.
-pub fn count_of_a(entries: &[Entry]) -> usize
+// How many entries at the front are of A.
+fn count_of_a(entries: &[Entry]) -> usize
     ensures { result ≡ length (take_while is_of_a entries.now) }
 {
     entries
@@ -70,8 +71,17 @@ pub fn count_of_a(entries: &[Entry]) -> usize
         .count()
 }
 
-/// The indexes of entries.
-pub fn indexes_of(alloc: Global, entries: &[Entry]) -> Result<Vec<usize>, NoMemory>
+/// The indexes of the events of a key, by calendar.
+#[derive(Drop)]
+pub struct KeyIndexes {
+    /// Those in A.
+    pub a: Vec<usize>,
+    /// Those in B.
+    pub b: Vec<usize>,
+}
+
+// The indexes of entries.
+fn indexes_of(alloc: Global, entries: &[Entry]) -> Result<Vec<usize>, NoMemory>
     ensures { IfOk result (λ indexes. indexes.items ≡ indexes_in entries.now) }
 {
     let mut indexes = Vec::new(alloc);
@@ -79,4 +89,14 @@ pub fn indexes_of(alloc: Global, entries: &[Entry]) -> Result<Vec<usize>, NoMemo
         indexes.push(entry.index)?;
     }
     Ok(indexes)
+}
+
+/// The indexes of the entries of one key, of which those of A come first.
+pub fn indexes_of_run(alloc: Global, run: &[Entry]) -> Result<KeyIndexes, NoMemory>
+    ensures { IfOk result (AreIndexesOf run.now) }
+{
+    let (of_a, of_b) = run.split_at(count_of_a(run));
+    let a = indexes_of(alloc, of_a)?;
+    let b = indexes_of(alloc, of_b)?;
+    Ok(KeyIndexes { a, b })
 }

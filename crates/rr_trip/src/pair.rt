@@ -5,17 +5,20 @@ ghost use Rattle.rr_decide.specs.Occurrence.{NamesUpToMaxDay};
 ghost use Rattle.rr_model.specs.Series.Validity.{IsValidSeries};
 ghost use Rattle.rr_model.specs.Sets.Sketch.{StandsIn};
 ghost use Rattle.rr_model.specs.Sets.Verdict.{IsEqualVerdict};
-ghost use Rattle.rr_trip.specs.Judged.{IsFaultBy, IsFoldOf, IsKeyFault};
+ghost use Rattle.rr_trip.specs.declared.pair.Judged.TheVariants.{Told};
+ghost use Rattle.rr_trip.specs.Judged.{IsFaultBy, IsFoldOf, IsKeyFault, IsKeyRefusal, IsRefused, IsWhether};
 ghost use Rattle.rr_trip.specs.Pairs.{IsBeside, IsFaultTold, IsJudged, IsJudgedBoth, IsJudgedWith, IsKept, days_b, days_beside, zones_beside};
 ghost use Rattle.rr_trip.specs.Report.{stated_in};
+ghost use Rattle.rr_trip.specs.Said.{IsAlikeTo, is_empty, said_alone, said_of_empty};
+ghost use Rattle.rr_seam.specs.Words.{are_same_words};
 
 use crate::judge::{KeyDays, days_of_key, key_days};
-use crate::said::Said;
+use crate::said::{Said, Zones};
 use crate::same::is_same_series;
 use rr_days::Folded;
 use rr_decide::equal;
-use rr_model::{Bytes, NoMemory, Side, Verdict};
-use rr_seam::{EventFile, KeyFault, KeySeries};
+use rr_model::{Bytes, NoMemory, Series, Side, Verdict, first_refusal_is_one};
+use rr_seam::{EventFile, KeyFault, KeyRefusal, KeySeries, are_same_words};
 use std::alloc::Global;
 
 /// What B states of a key, beside the days of A.
@@ -41,7 +44,7 @@ pub struct KeyPair {
 /// What is known of a key before its zones are looked at.
 #[derive(Drop)]
 pub enum Judged {
-    /// All that is said of it: that one calendar alone has it, or a refusal.
+    /// All that is said of it: what is so of the events of one calendar alone, or a refusal.
     Told(Said),
     /// Its days.
     Compared(KeyPair),
@@ -150,6 +153,72 @@ fn judged_with<F: EventFile>(
     }
 }
 
+// Whether both calendars state the events of a key in the same words.
+fn have_same_words<A: EventFile, B: EventFile>(
+    alloc: Global,
+    old: &A,
+    a: &[usize],
+    new: &B,
+    b: &[usize],
+) -> Result<bool, NoMemory>
+    ensures { IfOk result (λ are. are ≡ are_same_words (A.stated old.now a.now).words
+        (B.stated new.now b.now).words) }
+{
+    let words_a = old.key_words(alloc, a)?;
+    let words_b = new.key_words(alloc, b)?;
+    Ok(are_same_words(&words_a, &words_b))
+}
+
+// Whether the events of these indexes are refused.
+fn is_refused<F: EventFile>(alloc: Global, file: &F, indexes: &[usize]) -> Result<bool, NoMemory>
+    ensures { IfOk result (IsWhether (IsRefused (F.stated file.now indexes.now))) }
+{
+    first_refusal_is_one();
+    match key_days(alloc, file, indexes) {
+        Ok(_days) => Ok(false),
+        Err(KeyFault::Refused(_)) => Ok(true),
+        Err(KeyFault::NoMemory) => Err(NoMemory),
+    }
+}
+
+// Whether B refuses the events of a key, and both calendars state them in the same words. In other words B is not judged.
+fn is_alike<A: EventFile, B: EventFile>(
+    alloc: Global,
+    old: &A,
+    a: &[usize],
+    new: &B,
+    b: &[usize],
+) -> Result<bool, NoMemory>
+    ensures { IfOk result (IsWhether (IsAlikeTo (A.stated old.now a.now)
+        (B.stated new.now b.now))) }
+{
+    if have_same_words(alloc, old, a, new, b)? {
+        return is_refused(alloc, new, b);
+    }
+    Ok(false)
+}
+
+// What is known of a key whose events A refuses so.
+fn judged_refused<A: EventFile, B: EventFile>(
+    alloc: Global,
+    refusal: KeyRefusal,
+    old: &A,
+    a: &[usize],
+    new: &B,
+    b: &[usize],
+) -> Result<Judged, NoMemory>
+    requires { IsKeyRefusal (A.stated old.now a.now) refusal }
+    ensures { IfOk result (IsJudgedBoth (A.stated old.now a.now) (B.stated new.now b.now)) }
+{
+    if is_alike(alloc, old, a, new, b)? {
+        return Ok(Judged::Told(Said::Alike(refusal)));
+    }
+    Ok(Judged::Told(Said::Refused {
+        side: Side::A,
+        refusal,
+    }))
+}
+
 // What is known of a key that has events in both calendars.
 fn judged_both<A: EventFile, B: EventFile>(
     alloc: Global,
@@ -162,12 +231,55 @@ fn judged_both<A: EventFile, B: EventFile>(
 {
     match key_days(alloc, old, a) {
         Ok(days) => judged_with(alloc, days, new, b),
-        Err(fault) => refusal_on(Side::A, fault),
+        Err(KeyFault::Refused(refusal)) => judged_refused(alloc, refusal, old, a, new, b),
+        Err(KeyFault::NoMemory) => Err(NoMemory),
     }
 }
 
-/// What is known of a key with the events of these indexes in A and in B: that one calendar alone has some, otherwise the
-/// refusal of A, otherwise that of B, otherwise the days of both. If A is refused B is not read.
+// Whether a series has neither rules nor dates, so that nothing occurs in it.
+fn is_empty(series: &Series) -> bool
+    ensures { result ≡ is_empty series.now }
+{
+    !series.start_counts
+        && series.rules.is_empty()
+        && series.excluded.is_empty()
+        && series.plus.is_empty()
+}
+
+// What is said of a series that this calendar alone has.
+fn said_of_series(side: Side, series: &Series) -> Said
+    ensures { result ≡ said_of_empty side (is_empty series.now) }
+{
+    if is_empty(series) {
+        Said::Compared {
+            verdict: Verdict::Yes,
+            zones: Zones::Local,
+        }
+    } else {
+        Said::Only(side)
+    }
+}
+
+// What is known of the events of these indexes, which this calendar alone has.
+fn judged_alone<F: EventFile>(
+    alloc: Global,
+    side: Side,
+    file: &F,
+    indexes: &[usize],
+) -> Result<Judged, NoMemory>
+    ensures { IfOk result (λ judged. judged
+        ≡ Told (said_alone side (F.stated file.now indexes.now))) }
+{
+    match file.key_series(alloc, indexes) {
+        Ok(key) => Ok(Judged::Told(said_of_series(side, &key.series))),
+        Err(KeyFault::Refused(_)) => Ok(Judged::Told(Said::Only(side))),
+        Err(KeyFault::NoMemory) => Err(NoMemory),
+    }
+}
+
+/// What is known of a key with the events of these indexes in A and in B: if one calendar alone has some, that, unless nothing
+/// occurs in what they state; otherwise that both refuse them and state them in the same words, otherwise the refusal of A,
+/// otherwise that of B, otherwise the days of both. If A is refused in other words than those of B, B is not judged.
 pub fn judge_key<A: EventFile, B: EventFile>(
     alloc: Global,
     old: &A,
@@ -178,11 +290,10 @@ pub fn judge_key<A: EventFile, B: EventFile>(
     ensures { IfOk result (IsJudged (stated_in (A.stated old.now) a.now)
         (stated_in (B.stated new.now) b.now)) }
 {
-    if b.is_empty() {
-        return Ok(Judged::Told(Said::Only(Side::A)));
+    match (a, b) {
+        ([], []) => Ok(Judged::Told(Said::Only(Side::A))),
+        ([_, ..], []) => judged_alone(alloc, Side::A, old, a),
+        ([], [_, ..]) => judged_alone(alloc, Side::B, new, b),
+        ([_, ..], [_, ..]) => judged_both(alloc, old, a, new, b),
     }
-    if a.is_empty() {
-        return Ok(Judged::Told(Said::Only(Side::B)));
-    }
-    judged_both(alloc, old, a, new, b)
 }

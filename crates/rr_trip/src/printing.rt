@@ -2,16 +2,17 @@
 ghost use Rattle.std.specs.Prelude.{◌≡◌, ◌<◌, ◌++◌, All, IfOk, OnOk};
 ghost use Rattle.std.specs.Fmt.{decimal};
 ghost use Rattle.rr_text.specs.Printed.{IsPrintable};
-ghost use Rattle.rr_trip.specs.Printed.{IsPrintableFurther, asked_byte, asked_text, counts_text, escaped_byte, escaped_text, event_refusal_text, file_refusal_line, further_text, has_number, hex_digit, is_difference, key_refusal_text, key_text, line_text, lines_text, report_text, said_text};
+ghost use Rattle.rr_trip.specs.Printed.{IsPrintableFurther, asked_byte, asked_text, counts_text, event_refusal_text, file_refusal_line, further_text, has_number, is_difference, key_refusal_text, key_text, last_count_text, line_text, lines_text, report_text, said_text, title_field, uid_byte, uid_text};
 ghost use Rattle.rr_trip.specs.Said.{IsPrintableSaid};
 
 use crate::report::{Counts, Report, ReportLine, is_equal, is_unsure};
 use crate::said::Said;
 use crate::verdict::push_compared;
 use rr_differ::Further;
-use rr_model::{NoMemory, Refusal, Side};
+use rr_model::{Bytes, NoMemory, Refusal, Side};
 use rr_seam::{FileRefusal, Key, KeyRefusal};
 use rr_text::{push_extended, push_unsigned, side_text};
+use rr_title::{push_escaped, push_title};
 use std::alloc::Global;
 
 /// Appends a text.
@@ -22,35 +23,22 @@ pub fn push(out: &mut Vec<u8>, text: &[u8]) -> Result<(), NoMemory>
     Ok(())
 }
 
-// A digit to the base of 16.
-fn hex_digit(value: u8) -> u8
-    requires { value < 16 }
-    ensures { result ≡ hex_digit value }
-{
-    if value < 10 {
-        b'0' + value
-    } else {
-        b'a' + (value - 10)
-    }
-}
-
-// A byte as it stands, or as a backslash, an x and two digits where it is a blank, a control character, a backslash or no ASCII.
-fn push_escaped_byte(out: &mut Vec<u8>, byte: u8) -> Result<(), NoMemory>
-    ensures { OnOk result (out.new.items ≡ out.old.items ++ escaped_byte byte) }
+// A byte of a UID as it stands, or escaped if it is a blank, a control character, a backslash or no ASCII.
+fn push_uid_byte(out: &mut Vec<u8>, byte: u8) -> Result<(), NoMemory>
+    ensures { OnOk result (out.new.items ≡ out.old.items ++ uid_byte byte) }
 {
     if byte > b' ' && byte < 0x7F && byte != b'\\' {
         out.push(byte)?;
         return Ok(());
     }
-    let text = [b'\\', b'x', hex_digit(byte / 16), hex_digit(byte % 16)];
-    push(out, &text)
+    push_escaped(out, byte)
 }
 
-fn push_escaped(out: &mut Vec<u8>, text: &[u8]) -> Result<(), NoMemory>
-    ensures { OnOk result (out.new.items ≡ out.old.items ++ escaped_text text.now) }
+fn push_uid(out: &mut Vec<u8>, uid: &[u8]) -> Result<(), NoMemory>
+    ensures { OnOk result (out.new.items ≡ out.old.items ++ uid_text uid.now) }
 {
-    for byte in text {
-        push_escaped_byte(out, *byte)?;
+    for byte in uid {
+        push_uid_byte(out, *byte)?;
     }
     Ok(())
 }
@@ -62,7 +50,7 @@ fn push_asked_byte(out: &mut Vec<u8>, byte: u8) -> Result<(), NoMemory>
         out.push(byte)?;
         return Ok(());
     }
-    push_escaped_byte(out, byte)
+    push_uid_byte(out, byte)
 }
 
 /// Appends a name that was asked for, as UIDs are printed, but a backslash as it stands: names are asked for as they are printed.
@@ -91,7 +79,7 @@ pub fn push_key(out: &mut Vec<u8>, key: &Key) -> Result<(), NoMemory>
     match key {
         Key::Line(number) => push_numbered(out, b"line ", *number),
         Key::Number(number) => push_numbered(out, b"event ", *number),
-        Key::Uid(uid) => push_escaped(out, uid.as_slice()),
+        Key::Uid(uid) => push_uid(out, uid.as_slice()),
     }
 }
 
@@ -145,7 +133,7 @@ fn push_key_refusal(alloc: Global, out: &mut Vec<u8>, refusal: KeyRefusal) -> Re
     }
 }
 
-/// Appends what is said of a key whose printed text is `name`: the line of the report without its line feed.
+/// Appends what is said of a key whose printed text is `name`: the line of the report without its title and its line feed.
 pub fn push_said(alloc: Global, out: &mut Vec<u8>, name: &[u8], said: Said) -> Result<(), NoMemory>
     requires { IsPrintableSaid said }
     ensures { OnOk result (out.new.items ≡ out.old.items ++ said_text name.now said) }
@@ -165,6 +153,12 @@ pub fn push_said(alloc: Global, out: &mut Vec<u8>, name: &[u8], said: Said) -> R
             push(out, b" ")?;
             push_key_refusal(alloc, out, refusal)
         }
+        Said::Alike(refusal) => {
+            push(out, b"alike ")?;
+            push(out, name)?;
+            push(out, b" A ")?;
+            push_key_refusal(alloc, out, refusal)
+        }
         Said::Floating(side) => {
             push(out, b"differs ")?;
             push(out, name)?;
@@ -172,6 +166,20 @@ pub fn push_said(alloc: Global, out: &mut Vec<u8>, name: &[u8], said: Said) -> R
             push(out, side_text(side).as_bytes())
         }
         Said::Compared { verdict, zones } => push_compared(out, name, verdict, zones),
+    }
+}
+
+/// Appends a title as the last field of a line, between quotes; nothing if there is none.
+pub fn push_title_field(out: &mut Vec<u8>, title: &Option<Bytes>) -> Result<(), NoMemory>
+    ensures { OnOk result (out.new.items ≡ out.old.items ++ title_field title.now) }
+{
+    match title {
+        None => Ok(()),
+        Some(title) => {
+            push(out, b" \"")?;
+            push_title(out, title.as_slice())?;
+            push(out, b"\"")
+        }
     }
 }
 
@@ -214,6 +222,7 @@ fn push_line(
         let mut name = Vec::new(alloc);
         push_key(&mut name, &line.key)?;
         push_said(alloc, out, &name, line.said)?;
+        push_title_field(out, &line.title)?;
         return push(out, b"\n");
     }
     Ok(())
@@ -235,6 +244,14 @@ fn push_lines(
     Ok(())
 }
 
+// The last of the counts, and the end of their line.
+fn push_last_count(out: &mut Vec<u8>, alike: usize) -> Result<(), NoMemory>
+    ensures { OnOk result (out.new.items ≡ out.old.items ++ last_count_text alike) }
+{
+    push_numbered(out, b" alike ", alike as u64)?;
+    push(out, b"\n")
+}
+
 // The last line, which counts.
 fn push_counts(out: &mut Vec<u8>, counts: Counts) -> Result<(), NoMemory>
     ensures { OnOk result (out.new.items ≡ out.old.items ++ counts_text counts) }
@@ -246,11 +263,11 @@ fn push_counts(out: &mut Vec<u8>, counts: Counts) -> Result<(), NoMemory>
     push_numbered(out, b" only-B ", counts.only_b as u64)?;
     push_numbered(out, b" refused ", counts.refused as u64)?;
     push_numbered(out, b" zone ", counts.zone as u64)?;
-    push(out, b"\n")
+    push_last_count(out, counts.alike)
 }
 
 /// The report as it is printed: a line for each key, or, with `only_differences`, for each that is not equal or of which nobody
-/// can tell, and a last line with the counts of all.
+/// can tell, with its title if titles were asked for, and a last line with the counts of all.
 #[tactic(auto, unfolding(crate::specs::Printed::report_text))]
 pub fn print(alloc: Global, only_differences: bool, report: &Report) -> Result<Vec<u8>, NoMemory>
     requires { All (λ line. IsPrintableSaid line.said) report.now.lines.items }

@@ -1,9 +1,9 @@
 // What is said of each key of two calendars, and how many of each there are.
 ghost use Rattle.std.specs.Prelude.{◌≡◌};
-ghost use Rattle.rr_trip.specs.Counts.{count_said, counts_of, differs, is_counted, is_equal, is_in_utc, is_only, is_refused, is_unsure, status_of};
+ghost use Rattle.rr_trip.specs.Counts.{count_said, counts_of, differs, is_alike, is_counted, is_equal, is_in_utc, is_only, is_refused, is_unsure, is_utc, status_of};
 
 use crate::said::{Said, Zones};
-use rr_model::{Refusal, Side, Verdict};
+use rr_model::{Bytes, Refusal, Side, Verdict};
 use rr_seam::{Key, KeyRefusal};
 
 /// What is said of one key.
@@ -13,6 +13,8 @@ pub struct ReportLine {
     pub key: Key,
     /// What is said of it.
     pub said: Said,
+    /// The title of its first event in A, otherwise in B, if titles are asked for.
+    pub title: Option<Bytes>,
 }
 
 /// What is said of each key of two calendars, in the order of the keys.
@@ -39,12 +41,14 @@ pub struct Counts {
     pub refused: usize,
     /// Those with equal local times of which nobody can tell whether they are the same moments: they are among the equal ones.
     pub zone: usize,
+    /// Those that both calendars refuse and state in the same words: they are not among the refused ones.
+    pub alike: usize,
 }
 
 /// How a comparison ends.
 #[derive(Clone, Copy)]
 pub enum Status {
-    /// All keys are equal.
+    /// All keys are equal or alike.
     Equal,
     /// A key differs, or stands in one calendar alone.
     Differs,
@@ -93,6 +97,13 @@ fn is_refused(said: Said) -> bool
     matches!(said, Said::Refused { .. })
 }
 
+// Whether both calendars refuse the events of a key and state them in the same words.
+fn is_alike(said: Said) -> bool
+    ensures { result ≡ is_alike said }
+{
+    matches!(said, Said::Alike(_))
+}
+
 /// Whether the events of a key have equal local times, and nobody can tell from the files whether they have the same moments.
 pub(crate) fn is_unsure(said: Said) -> bool
     ensures { result ≡ is_unsure said }
@@ -106,20 +117,28 @@ pub(crate) fn is_unsure(said: Said) -> bool
     )
 }
 
-/// Whether events of a key are refused for a moment in UTC beside local time, which no stated offset relates.
-pub fn is_in_utc(said: Said) -> bool
-    ensures { result ≡ is_in_utc said }
+// Whether a refusal is of a moment in UTC beside local time.
+fn is_utc(refusal: KeyRefusal) -> bool
+    ensures { result ≡ is_utc refusal }
 {
     matches!(
-        said,
-        Said::Refused {
-            refusal: KeyRefusal::Event {
-                refusal: Refusal::UtcMoment,
-                ..
-            },
+        refusal,
+        KeyRefusal::Event {
+            refusal: Refusal::UtcMoment,
             ..
         }
     )
+}
+
+/// Whether events of a key are refused, by one calendar or alike by both, for a moment in UTC beside local time, which no stated
+/// offset relates.
+pub fn is_in_utc(said: Said) -> bool
+    ensures { result ≡ is_in_utc said }
+{
+    match said {
+        Said::Refused { refusal, .. } | Said::Alike(refusal) => is_utc(refusal),
+        Said::Only(_) | Said::Floating(_) | Said::Compared { .. } => false,
+    }
 }
 
 // What is counted of the keys.
@@ -130,6 +149,7 @@ enum Counted {
     Only(Side),
     Refused,
     Unsure,
+    Alike,
     InUtc,
 }
 
@@ -143,6 +163,7 @@ fn is_counted(counted: Counted, said: Said) -> bool
         Counted::Only(side) => is_only(side, said),
         Counted::Refused => is_refused(said),
         Counted::Unsure => is_unsure(said),
+        Counted::Alike => is_alike(said),
         Counted::InUtc => is_in_utc(said),
     }
 }
@@ -178,6 +199,7 @@ impl Report {
             only_b: count_said(lines, Counted::Only(Side::B)),
             refused: count_said(lines, Counted::Refused),
             zone: count_said(lines, Counted::Unsure),
+            alike: count_said(lines, Counted::Alike),
         }
     }
 }

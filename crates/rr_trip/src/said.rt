@@ -30,7 +30,7 @@ pub enum Zones {
 /// What is said of a key.
 #[derive(Clone, Copy)]
 pub enum Said {
-    /// Only this calendar has an event of the key.
+    /// Only this calendar has events of the key, and they are not all cancelled.
     Only(Side),
     /// The events of the key in this calendar are refused.
     Refused {
@@ -39,6 +39,8 @@ pub enum Said {
         /// The refusal.
         refusal: KeyRefusal,
     },
+    /// Both calendars refuse the events of the key, and state them in the same words. The refusal is that of A.
+    Alike(KeyRefusal),
     /// The events of the key state local times without a zone in this calendar, and a zone or UTC in the other.
     Floating(Side),
     /// Both are compared, for all years to come.

@@ -1,23 +1,23 @@
 // What is said of the events that are printed by one name, and where they differ.
-ghost use Rattle.std.specs.Prelude.{◌≡◌, ◌++◌, IfOk, OnOk, bytes_eq};
+ghost use Rattle.std.specs.Prelude.{◌≡◌, IfOk};
 ghost use Rattle.rr_days.specs.Sequence.{sketch};
 ghost use Rattle.rr_seam.specs.Stated.{calendar_by};
 ghost use Rattle.rr_trip.specs.Pairs.{IsPair, IsSound, days_b};
-ghost use Rattle.rr_trip.specs.Printed.{key_text};
-ghost use Rattle.rr_trip.specs.Report.{indexes_from};
-ghost use Rattle.rr_trip.specs.Shown.{IsPictureOfJudged, IsShownBy, IsShownIn, IsTold, IsToldBy, IsUnknown, are_none, equal_status, is_key_named, named_part, said_status};
+ghost use Rattle.rr_trip.specs.Shown.{IsPictureOfJudged, IsShownBy, IsShownIn, IsShownNamed, IsTold, IsToldBy, IsUnknown, equal_status, said_status};
 ghost use Rattle.rr_trip.specs.Zoned.{zoned};
 
 use crate::grid::picture;
 use crate::known::KnownZones;
+use crate::name::{are_none, indexes_named, shown_name};
 use crate::pair::{Judged, KeyPair, judge_key};
-use crate::printing::{push, push_asked, push_further, push_key, push_said};
+use crate::printing::{push, push_asked, push_further, push_said, push_title_field};
 use crate::report::Status;
 use crate::said::{Said, Zones};
+use crate::title::title_of;
 use crate::zones::said_of;
 use rr_differ::further_differences;
-use rr_model::{NoMemory, Verdict, day_part};
-use rr_seam::{EventFile, Key};
+use rr_model::{Bytes, NoMemory, Verdict, day_part};
+use rr_seam::EventFile;
 use rr_true::ZoneNames;
 use std::alloc::Global;
 
@@ -30,45 +30,6 @@ pub struct Shown {
     pub text: Vec<u8>,
     /// What is said, if a calendar has such an event.
     pub said: Option<Said>,
-}
-
-// Whether a key is printed so.
-fn is_named(alloc: Global, key: &Key, name: &[u8]) -> Result<bool, NoMemory>
-    ensures { IfOk result (λ b. b ≡ bytes_eq (key_text key.now) name.now) }
-{
-    let mut text = Vec::new(alloc);
-    push_key(&mut text, key)?;
-    Ok(text.as_slice() == name)
-}
-
-// Puts the index of an event if its key is printed so.
-fn put_named(
-    alloc: Global,
-    indexes: &mut Vec<usize>,
-    key: &Key,
-    index: usize,
-    name: &[u8],
-) -> Result<(), NoMemory>
-    ensures { OnOk result (indexes.new.items
-        ≡ indexes.old.items ++ named_part name.now key.now index) }
-{
-    if is_named(alloc, key, name)? {
-        indexes.push(index)?;
-    }
-    Ok(())
-}
-
-// The indexes of the events of one calendar whose key is printed so.
-fn indexes_named<F: EventFile>(alloc: Global, file: &F, name: &[u8]) -> Result<Vec<usize>, NoMemory>
-    ensures { IfOk result (λ indexes. indexes.items
-        ≡ indexes_from (is_key_named name.now) 0 (F.keys file.now)) }
-{
-    let mut indexes = Vec::new(alloc);
-    for index in 0..file.count() {
-        let key = file.key_at(alloc, index)?;
-        put_named(alloc, &mut indexes, &key, index, name)?;
-    }
-    Ok(indexes)
 }
 
 // How it ends if local times are equal.
@@ -88,6 +49,7 @@ fn said_status(said: Said) -> Status
     match said {
         Said::Only(_) | Said::Floating(_) => Status::Differs,
         Said::Refused { .. } => Status::Refused,
+        Said::Alike(_) => Status::Equal,
         Said::Compared { verdict, zones } => match verdict {
             Verdict::Yes => equal_status(zones),
             Verdict::No { .. } => Status::Differs,
@@ -148,22 +110,24 @@ fn unknown_name(alloc: Global, name: &[u8]) -> Result<Shown, NoMemory>
     })
 }
 
-// What is said of the events of a key that is printed so, of which a calendar has one.
+// What is said of the events of a key that is printed so, of which a calendar has one, with this title.
 fn show_key<M: ZoneNames, N: ZoneNames>(
     alloc: Global,
     names_a: &M,
     names_b: &N,
     judged: &Judged,
+    title: &Option<Bytes>,
     name: &[u8],
 ) -> Result<Shown, NoMemory>
     requires { IsSound judged.now }
     ensures { IfOk result (IsShownBy (M.meaning names_a.now) (N.meaning names_b.now) judged.now
-        name.now) }
+        title.now name.now) }
 {
     let mut known = KnownZones::new(alloc);
     let said = said_of(alloc, &mut known, names_a, names_b, judged)?;
     let mut text = Vec::new(alloc);
     push_said(alloc, &mut text, name, said)?;
+    push_title_field(&mut text, title)?;
     push(&mut text, b"\n")?;
     let picture = picture_of(alloc, judged)?;
     push(&mut text, &picture)?;
@@ -174,30 +138,20 @@ fn show_key<M: ZoneNames, N: ZoneNames>(
     })
 }
 
-// Whether there are no events in A and none in B.
-fn are_none(a: &[usize], b: &[usize]) -> bool
-    ensures { result ≡ are_none a.now b.now }
-{
-    match (a, b) {
-        ([], []) => true,
-        ([_, ..], _) | ([], [_, ..]) => false,
-    }
-}
-
-/// What is said of the events of two calendars whose key is printed by this name, as in a report; and, if their local times
-/// differ, a picture of the month of the first that does and the two after it. If no event has the name, that, with the name as
-/// it is printed.
-pub fn show<A: EventFile, B: EventFile, M: ZoneNames, N: ZoneNames>(
+// What is shown of the events of two calendars whose key is printed by this name.
+fn show_named<A: EventFile, B: EventFile, M: ZoneNames, N: ZoneNames>(
     alloc: Global,
     a: &A,
     names_a: &M,
     b: &B,
     names_b: &N,
     name: &[u8],
+    titles: bool,
 ) -> Result<Shown, NoMemory>
-    ensures { IfOk result (IsShownIn
-        (zoned (calendar_by (A.keys a.now) (A.stated a.now)) (M.meaning names_a.now))
-        (zoned (calendar_by (B.keys b.now) (B.stated b.now)) (N.meaning names_b.now)) name.now) }
+    ensures { IfOk result (IsShownNamed titles
+        (zoned (calendar_by (A.keys a.now) (A.stated a.now) (A.titles a.now)) (M.meaning names_a.now))
+        (zoned (calendar_by (B.keys b.now) (B.stated b.now) (B.titles b.now)) (N.meaning names_b.now))
+        name.now) }
 {
     let of_a = indexes_named(alloc, a, name)?;
     let of_b = indexes_named(alloc, b, name)?;
@@ -205,5 +159,28 @@ pub fn show<A: EventFile, B: EventFile, M: ZoneNames, N: ZoneNames>(
         return unknown_name(alloc, name);
     }
     let judged = judge_key(alloc, a, &of_a, b, &of_b)?;
-    show_key(alloc, names_a, names_b, &judged, name)
+    let title = title_of(alloc, titles, a, &of_a, b, &of_b)?;
+    show_key(alloc, names_a, names_b, &judged, &title, name)
+}
+
+/// What is said of the events of two calendars whose key is printed by this name, as in a report, with its title if titles are
+/// asked for; and, if their local times differ, a picture of the month of the first that does and the two after it. If no key is
+/// printed so, the name may be the title, as it is printed, of the events of one key alone. Otherwise no event has the name, and
+/// that is said, with the name as it is printed.
+pub fn show<A: EventFile, B: EventFile, M: ZoneNames, N: ZoneNames>(
+    alloc: Global,
+    a: &A,
+    names_a: &M,
+    b: &B,
+    names_b: &N,
+    name: &[u8],
+    titles: bool,
+) -> Result<Shown, NoMemory>
+    ensures { IfOk result (IsShownIn titles
+        (zoned (calendar_by (A.keys a.now) (A.stated a.now) (A.titles a.now)) (M.meaning names_a.now))
+        (zoned (calendar_by (B.keys b.now) (B.stated b.now) (B.titles b.now)) (N.meaning names_b.now))
+        name.now) }
+{
+    let name = shown_name(alloc, a, b, name)?;
+    show_named(alloc, a, names_a, b, names_b, &name, titles)
 }

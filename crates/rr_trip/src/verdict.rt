@@ -12,7 +12,7 @@ use rr_model::{Kind, NoMemory, Side, Verdict};
 use rr_text::{push_extended, side_text};
 
 // A number below 100 in two digits.
-fn two_digits(value: u32) -> [u8; 2]
+pub(crate) fn two_digits(value: u32) -> [u8; 2]
     requires { value < 100 }
     ensures { result ≡ decimal_of 2 value }
 {

@@ -11,8 +11,8 @@ invariant-loop-run g l =
     let ma = g.M.ZoneNames.meaning l.names_a in
     let mb = g.N.ZoneNames.meaning l.names_b in
     AreKnown ma mb l.known
-    × IsUpTo (zoned (calendar_by (g.A.EventFile.keys l.a) (g.A.EventFile.stated l.a)) ma)
-    (zoned (calendar_by (g.B.EventFile.keys l.b) (g.B.EventFile.stated l.b)) mb) l.entries l.lines.items l.start
+    × IsUpTo l.titles (zoned (calendar_by (g.A.EventFile.keys l.a) (g.A.EventFile.stated l.a) (g.A.EventFile.titles l.a)) ma)
+    (zoned (calendar_by (g.B.EventFile.keys l.b) (g.B.EventFile.stated l.b) (g.B.EventFile.titles l.b)) mb) l.entries l.lines.items l.start
 
 abbrev pub decreases-loop-run : goal.decreases-loop-run
 decreases-loop-run g l = length l.entries - l.start

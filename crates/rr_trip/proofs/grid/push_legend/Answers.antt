@@ -1,11 +1,10 @@
-use Rattle.rr_trip.proofs.GridLemmas.{grown_twice, not_grown}
+use Rattle.std.proofs.Common.{w64, to_z, of_z, arith}
+use Rattle.std.proofs.lemmas.Int.{ints}
+use Rattle.rr_trip.proofs.GridLemmas.{one_listed}
 use Rattle.rr_trip.proofs.grid.push_legend.Goals as goal
 
-pub loop-i-init : goal.loop-i-init
-loop-i-init g c = not_grown c.args.out.now.items
-
 pub loop-i-preserved : goal.loop-i-preserved
-loop-i-preserved g c = grown_twice _ _ _ (grown_twice _ _ _ c.loop-i.invariant c.in_ok-push_unusual.ensures) c.in_ok-push_unusual-2.ensures
-
-pub returns : goal.returns
-returns g c = c.loop-i.invariant
+loop-i-preserved g c =
+    one_listed c.args.usual.now (g.A.DaySeq.sketch c.args.a.now) (g.B.DaySeq.sketch c.args.b.now) (to_z w64 (of_z w64 c.args.first))
+    (to_z w64 (of_z w64 c.day_after-day.result)) c.loop-i.i c.args.out.now.items c.loop-i.out.items _ _
+    (omega (arith, ints)) c.loop-i.invariant c.in_ok-push_unusual.ensures c.in_ok-push_unusual-2.ensures

@@ -1,6 +1,8 @@
-use Rattle.rr_trip.specs.Grid.{Grows}
+use Rattle.std.proofs.Common.{◌≡◌, ◌++◌}
+use Rattle.rr_trip.specs.Grid.{legend_text}
 use Rattle.rr_trip.proofs.grid.push_legend.Given as goal
 
--- only more is put
+-- the lines of the days so far are put
 abbrev pub invariant-loop-i : goal.invariant-loop-i
-invariant-loop-i g l = Grows l.fn.out.items l.out.items
+invariant-loop-i g l =
+    l.out.items ≡ l.fn.out.items ++ legend_text l.usual (g.A.DaySeq.sketch l.a) (g.B.DaySeq.sketch l.b) l.first l.i

@@ -1,4 +1,5 @@
 use Rattle.std.proofs.Common.{FitsSigned, to_z-of_z, w64, ◌∙◌}
+use Rattle.rr_trip.specs.Grid.{marked_text}
 use Rattle.rr_trip.proofs.GridLemmas.{months_put}
 use Rattle.rr_trip.proofs.grid.push_months.Goals as goal
 
@@ -7,6 +8,7 @@ returns g c =
     let back = to_z-of_z c.ranges.first in
     let second : FitsSigned w64 c.month_after-second.result = record { sfits = c.month_after-second.type_inv } in
     let third : FitsSigned w64 c.month_after-third.result = record { sfits = c.month_after-third.type_inv } in
-    months_put (g.A.DaySeq.sketch c.args.a.now) (g.B.DaySeq.sketch c.args.b.now) c.args.first _ _ _ _ _ _
+    months_put c.push_marked-3.result c.push_marked-3.new.out.items c.push_marked-2.new.out.items c.push_marked.new.out.items c.args.out.now.items
+    (marked_text (g.A.DaySeq.sketch c.args.a.now) (g.B.DaySeq.sketch c.args.b.now)) c.args.first _ _
     (to_z-of_z second ∙ (rw back at c.month_after-second.ensures.value)) (to_z-of_z third ∙ c.month_after-third.ensures.value)
-    (rw back at c.in_ok-push_month.ensures) c.in_ok-push_month-2.ensures c.in_ok-push_month-3.ensures
+    (rw back at c.in_ok-push_marked.ensures) c.in_ok-push_marked-2.ensures c.push_marked-3.ensures

@@ -1,8 +1,13 @@
-use Rattle.rr_trip.proofs.GridLemmas.{grown, grown_by, grown_twice}
+use Rattle.std.proofs.Common.{codes, to_z-of_z}
+use Rattle.rr_trip.specs.Grid.{months_legend, usual_text}
+use Rattle.rr_trip.proofs.GridLemmas.{put_three}
 use Rattle.rr_trip.proofs.grid.push_notes.Goals as goal
 
 pub returns : goal.returns
 returns g c =
-    grown_twice _ _ _ (grown_twice _ _ _ (grown_twice _ _ _ (grown _ _ _ _ (grown_twice _ _ _ (grown _ _ _ _ (grown_by _ _ _ c.in_ok-push.ensures)
-    c.in_ok-push-2.ensures) c.in_ok-push_times.ensures) c.in_ok-push-3.ensures) c.in_ok-push_legend.ensures) c.in_ok-push_legend-2.ensures)
-    c.in_ok-push_legend-3.ensures
+    let a = g.A.DaySeq.sketch c.args.a.now in
+    let b = g.B.DaySeq.sketch c.args.b.now in
+    put_three c.push_months_legend.result c.push_months_legend.new.out.items c.push_usual.new.out.items c.push.new.out.items c.args.out.now.items
+    (codes "\n= both, x both at other times, A or B one alone, . none\n") (usual_text a.kind b.kind c.args.usual.now)
+    (months_legend c.args.usual.now a b c.args.first) c.in_ok-push.ensures
+    (rw (c.kind.ensures, c.kind-2.ensures) at c.in_ok-push_usual.ensures) (rw (to_z-of_z c.ranges.first) at c.push_months_legend.ensures)

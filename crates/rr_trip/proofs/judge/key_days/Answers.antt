@@ -1,4 +1,4 @@
-use Rattle.std.proofs.Common.{Ok, Vec, Global, ap, sym, ◌∙◌}
+use Rattle.std.proofs.Common.{Ok, ap, sym, ◌∙◌}
 use Rattle.std.proofs.lemmas.Result.{IfErr-weaker, IfOk-weaker}
 use Rattle.rr_trip.proofs.JudgeLemmas.{fault_stated, not_stated}
 use Rattle.rr_trip.proofs.judge.key_days.Goals as goal

@@ -1,4 +1,3 @@
-use Rattle.std.proofs.Common.{rules}
 use Rattle.rr_trip.proofs.known.KnownZones.look_up.Goals as goal
 
 pub returns-clause-known : goal.returns-clause-known

@@ -1,7 +1,7 @@
 use Rattle.std.proofs.Common.{◌≡◌, ◌++◌, drop}
 use Rattle.rr_trip.specs.Report.{indexes_from}
 use Rattle.rr_trip.specs.Shown.{is_key_named}
-use Rattle.rr_trip.proofs.shown.indexes_named.Given as goal
+use Rattle.rr_trip.proofs.name.indexes_named.Given as goal
 
 -- those of the other events are left
 abbrev pub invariant-loop-index : goal.invariant-loop-index

@@ -2,7 +2,7 @@ use Rattle.std.proofs.Common.{◌<◌, ◌≤◌, length, arith}
 use Rattle.rr_trip.specs.Report.{indexes_from}
 use Rattle.rr_trip.specs.Shown.{is_key_named}
 use Rattle.rr_trip.proofs.ShownLemmas.{named_all, named_next}
-use Rattle.rr_trip.proofs.shown.indexes_named.Goals as goal
+use Rattle.rr_trip.proofs.name.indexes_named.Goals as goal
 
 pub loop-index-preserved : goal.loop-index-preserved
 loop-index-preserved g c =

@@ -1,0 +1,30 @@
+-- What follows of what is said of a key.
+use Rattle.std.specs.Prelude.{◌≡◌, ◌↔◌, true, ℤ}
+use Rattle.rr_model.specs.Series.Occurrences.{Occurs}
+use Rattle.rr_model.specs.declared.kind.Kind.{Kind}
+use Rattle.rr_model.specs.declared.rule.Series.{Series}
+use Rattle.rr_seam.specs.Stated.{Stated}
+use Rattle.rr_seam.specs.Words.{are_same_words}
+use Rattle.rr_seam.specs.declared.refusal.KeyRefusal.{KeyRefusal}
+use Rattle.rr_trip.specs.Judged.{IsRefused}
+use Rattle.rr_trip.specs.Said.{IsSaidOfBoth, is_empty}
+use Rattle.rr_trip.specs.Zoned.{Meaning}
+use Rattle.rr_trip.specs.declared.said.Said.{Said}
+use Rattle.rr_trip.specs.declared.said.Said.TheVariants.{Alike}
+
+-- it is said that both calendars refuse the events of a key and state them in the same words
+abbrev pub IsAlikeSaid : Said → Type 0
+IsAlikeSaid said = (refusal : KeyRefusal) × (said ≡ Alike refusal)
+
+-- both calendars refuse the events of a key, and state them in the same words
+abbrev pub AreRefusedAlike : Stated → Stated → Type 0
+AreRefusedAlike a b = IsRefused a × (are_same_words a.words b.words ≡ true) × IsRefused b
+
+-- A key that both calendars have is said to be alike exactly where both refuse it and state it in the same words.
+abbrev pub AlikeIsExact : Type 0
+AlikeIsExact =
+    (means_a means_b : Meaning) (a b : Stated) (said : Said) → IsSaidOfBoth means_a means_b a b said → IsAlikeSaid said ↔ AreRefusedAlike a b
+
+-- In a series that is empty by its form nothing occurs.
+abbrev pub EmptyHasNone : Type 0
+EmptyHasNone = (series : Series) (k : Kind) (t : ℤ) → is_empty series ≡ true → Occurs series k t → ⊥

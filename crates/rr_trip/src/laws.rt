@@ -1,0 +1,17 @@
+// Laws of what is said of a key, each the contract of a function that does nothing.
+ghost use Rattle.rr_trip.specs.Laws.{AlikeIsExact, EmptyHasNone};
+
+use rr_model::first_refusal_is_one;
+
+/// A key that both calendars have is said to be alike exactly where both refuse it and state it in the same words.
+pub fn alike_is_exact()
+    ensures { AlikeIsExact }
+{
+    first_refusal_is_one();
+}
+
+/// A series that is said to be empty by its form, as that of a cancelled event, has no occurrence: so an event that one calendar
+/// alone has and that is `equal` all the same has lost none.
+pub fn empty_has_none()
+    ensures { EmptyHasNone }
+{}
