@@ -6,7 +6,7 @@ use Rattle.rr_trip.specs.declared.report.Status.{Status as Ending}
 use Rattle.rr_trip.specs.declared.report.Status.TheVariants as ending
 use Rattle.rr_compare.specs.Answer.{Answer, IsAnswer, IsCompared, IsComparedWith, IsOfBoth, status_by}
 use Rattle.rr_compare.specs.Calendars.{Texts, new_calendar, old_calendar}
-use Rattle.rr_compare.specs.Words.{Asked, Request, comparison, help}
+use Rattle.rr_compare.specs.Words.{Asked, Request, comparison, help, version}
 use Rattle.rr_compare.specs.declared.status.Status.{Status}
 use Rattle.rr_calendars.specs.Run.{IsEnding}
 
@@ -16,14 +16,14 @@ ending_by request ending.Differs = tt
 ending_by request ending.Refused = tt
 
 module _ (request : Request) (x : Answer) where
-  of_both : (show : Option (List ℕ)) (only_differences : Bool) (a b : ZonedCalendar) → IsOfBoth show only_differences a b x
+  of_both : (show : Option (List ℕ)) (only_differences titles : Bool) (a b : ZonedCalendar) → IsOfBoth show only_differences titles a b x
       → IsEnding (Some (comparison request)) x.status
-  of_both None only_differences a b h = subst (λ (y : Answer). IsEnding (Some (comparison request)) y.status) (sym h.is) (ending_by request _)
-  of_both (Some name) only_differences a b h =
+  of_both None only_differences titles a b h = subst (λ (y : Answer). IsEnding (Some (comparison request)) y.status) (sym h.is) (ending_by request _)
+  of_both (Some name) only_differences titles a b h =
       subst (λ (y : Answer). IsEnding (Some (comparison request)) y.status) (sym h.is) (ending_by request h.shown.status)
 
   compared_with : (a : ZonedCalendar) (b : Result ZonedCalendar FileRefusal) → IsComparedWith request a b x → IsEnding (Some (comparison request)) x.status
-  compared_with a (Ok b) h = of_both request.show request.only_differences a b h
+  compared_with a (Ok b) h = of_both request.show request.only_differences request.titles a b h
   compared_with a (Err refusal) h = subst (λ (y : Answer). IsEnding (Some (comparison request)) y.status) (sym h) tt
 
   compared_by : (a b : Result ZonedCalendar FileRefusal) → IsCompared request a b x → IsEnding (Some (comparison request)) x.status
@@ -33,4 +33,5 @@ module _ (request : Request) (x : Answer) where
 pub answer_ending : (asked : Option Asked) (texts : Texts) (x : Answer) → IsAnswer asked texts x → IsEnding asked x.status
 answer_ending None texts x h = subst (λ (s : Status). IsEnding None s) (sym h) tt
 answer_ending (Some help) texts x h = subst (λ (s : Status). IsEnding (Some help) s) (sym h) tt
+answer_ending (Some version) texts x h = subst (λ (s : Status). IsEnding (Some version) s) (sym h) tt
 answer_ending (Some (comparison request)) texts x h = compared_by request x (old_calendar request texts) (new_calendar request texts) h

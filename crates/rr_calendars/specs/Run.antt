@@ -4,7 +4,7 @@ use Rattle.rr_io.specs.Outside.{Appended, AppendedPart, RoseOrIsLast}
 use Rattle.rr_seam.specs.declared.file.TheConstants.{MAX_FILE}
 use Rattle.rr_compare.specs.Answer.{Answer, IsAnswer}
 use Rattle.rr_compare.specs.Calendars.{Texts}
-use Rattle.rr_compare.specs.Words.{Asked, comparison, help}
+use Rattle.rr_compare.specs.Words.{Asked, comparison, help, version}
 use Rattle.rr_compare.specs.declared.status.Status.{Status}
 use Rattle.rr_compare.specs.declared.status.Status.TheVariants.{Equal, Differs, Refused, Usage, ReadFault, WriteFault, NoMemory}
 
@@ -36,6 +36,7 @@ texts_by old new zones =
 abbrev pub contents : Option Asked → (List ℕ → Option (List ℕ)) → Option Texts
 contents None held = Some (record { old = []; new = []; zones = [] })
 contents (Some help) held = Some (record { old = []; new = []; zones = [] })
+contents (Some version) held = Some (record { old = []; new = []; zones = [] })
 contents (Some (comparison request)) held =
     texts_by (content held request.old.name) (content held request.new.name) (content_named held request.zones)
 
@@ -56,6 +57,7 @@ IsNamedFile (Some file) name = name ≡ file
 abbrev pub IsFileOf : Option Asked → List ℕ → Type 0
 IsFileOf None name = ⊥
 IsFileOf (Some help) name = ⊥
+IsFileOf (Some version) name = ⊥
 IsFileOf (Some (comparison request)) name = (name ≡ request.old.name) ⊎ (name ≡ request.new.name) ⊎ IsNamedFile request.zones name
 
 -- ---- what a run leaves

@@ -6,6 +6,7 @@ mod exit;
 mod program;
 mod progress;
 mod taken;
+mod unread;
 mod work;
 
 pub use ended::Ended;
@@ -25,6 +26,7 @@ use std::env;
 use std::io::IsTerminal;
 use std::process::ExitCode;
 use taken::note_languages;
+use unread::note_unread;
 
 // What is noted of how a run ended, by what the sink took. If the reader of the output has gone, nothing is.
 fn fixed_note(status: Status, sink: &HostSink<&HostRuntime>) -> Option<&'static str> {
@@ -97,6 +99,7 @@ fn run_words(rt: &HostRuntime, words: &[&str]) -> Ended {
     }
     if was_compared(ended.status) {
         note_languages(rt, words);
+        note_unread(rt, words);
     }
     ended
 }

@@ -1,19 +1,11 @@
 // In which language a file was read whose word states none, if its name has not the ending of that language.
 use rr_compare::{Asked, Language, Operand, language_by, parse};
-use rr_io::{HostSource, Source};
+use rr_io::put_note;
 use rr_model::Side;
-use std::fs;
+use rr_notes::bytes_again;
 
 // How much of a file is read once more: its language stands in its first lines.
 const FRONT: usize = 65_536;
-
-// Whether a name is that of a file of the disk, which can be read once more.
-fn is_file(rt: &HostRuntime, name: &str) -> bool {
-    match fs::metadata(rt, name) {
-        Ok(found) => name != "-" && found.is_file(),
-        Err(_) => false,
-    }
-}
 
 // The language that the ending of a name tells; a name without such an ending is that of an iCalendar file.
 fn language_of_name(name: &str) -> Language {
@@ -28,11 +20,10 @@ fn language_of_name(name: &str) -> Language {
 
 // The language of a file by its content, if its word states none and its name tells another.
 fn language_taken(rt: &HostRuntime, file: Operand) -> Option<Language> {
-    if file.language.is_some() || !is_file(rt, file.name) {
+    if file.language.is_some() {
         return None;
     }
-    let mut source = HostSource::new(rt.alloc(), rt);
-    let front = source.fetch_within(rt.alloc(), file.name, FRONT).ok()?;
+    let front = bytes_again(rt, file.name, FRONT)?;
     let language = language_by(None, front.as_slice());
     if language == language_of_name(file.name) {
         return None;
@@ -55,8 +46,7 @@ fn text_on_language(side: Side, language: Language) -> &'static str {
 // Notes in which language a file was read.
 fn note_language(rt: &HostRuntime, side: Side, file: Operand) {
     if let Some(language) = language_taken(rt, file) {
-        let text = text_on_language(side, language);
-        let _ = eprintln!(rt; "rr-calendars: {text}");
+        put_note(rt, "rr-calendars", text_on_language(side, language));
     }
 }
 

@@ -85,7 +85,7 @@ fn fetch_asked<S: Source>(
         → S.failed source.new ≡ S.failed source.old }
 {
     match asked {
-        None | Some(Asked::Help) => Ok(Files {
+        None | Some(Asked::Help | Asked::Version) => Ok(Files {
             old: Vec::new(alloc),
             new: Vec::new(alloc),
             zones: Vec::new(alloc),

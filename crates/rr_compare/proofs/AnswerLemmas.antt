@@ -15,13 +15,14 @@ use Rattle.rr_compare.specs.declared.file.AnyFile.{AnyFile}
 
 -- ---- a file that is read
 
--- two calendars with the same keys, whose events state the same, are one
-same_calendar : (c d : Calendar) → c.keys ≡ d.keys → ((indexes : List ℕ) → c.stated indexes ≡ d.stated indexes) → c ≡ d
-same_calendar c d keys stated = λ i. record { keys = keys i; stated = λ (indexes : List ℕ). stated indexes i }
+-- two calendars with the same keys, whose events state the same and have the same titles, are one
+same_calendar : (c d : Calendar) → c.keys ≡ d.keys → ((indexes : List ℕ) → c.stated indexes ≡ d.stated indexes)
+    → ((index : ℕ) → c.titles index ≡ d.titles index) → c ≡ d
+same_calendar c d keys stated titles = λ i. record { keys = keys i; stated = λ (indexes : List ℕ). stated indexes i; titles = λ (index : ℕ). titles index i }
 
 -- a calendar is the one that is wanted
 pub is_read : (wanted : Result Calendar FileRefusal) (c : Calendar) → IsCalendar wanted c → wanted ≡ Ok c
-is_read wanted c is = is.reads ∙ ap Ok (sym (same_calendar c is.of_file is.keys is.stated))
+is_read wanted c is = is.reads ∙ ap Ok (sym (same_calendar c is.of_file is.keys is.stated is.titles))
 
 module _ (request : Request) (wanted : Result Calendar FileRefusal) (means : List ℕ → Option (ℤ → ℤ)) (answer : Answer) where
   -- the file that is wanted, with what the names of its zones mean
@@ -40,7 +41,7 @@ module _ (request : Request) (wanted : Result Calendar FileRefusal) (means : Lis
       → IsCompared request file b answer
   read_a a b is h = subst (λ (w : Result ZonedCalendar FileRefusal). IsCompared request w b answer) (sym (is_zoned a is)) h
 
-  pub read_b : (a : ZonedCalendar) (b : Calendar) → IsCalendar wanted b → IsOfBoth request.show request.only_differences a (zoned b means) answer
+  pub read_b : (a : ZonedCalendar) (b : Calendar) → IsCalendar wanted b → IsOfBoth request.show request.only_differences request.titles a (zoned b means) answer
       → IsComparedWith request a file answer
   read_b a b is h = subst (λ (w : Result ZonedCalendar FileRefusal). IsComparedWith request a w answer) (sym (is_zoned b is)) h
 
@@ -58,10 +59,10 @@ module _ (request : Request) (wanted : Result Calendar FileRefusal) (means : Lis
 
 -- ---- two calendars
 
-module _ (only_differences : Bool) (a b : ZonedCalendar) (answer : Answer) where
+module _ (only_differences titles : Bool) (a b : ZonedCalendar) (answer : Answer) where
   -- what is answered if no name is asked for, and if one is
-  pub none_of_both : (show : Option (List ℕ)) → show ≡ None → IsReported only_differences a b answer → IsOfBoth show only_differences a b answer
-  none_of_both show e h = subst (λ (s : Option (List ℕ)). IsOfBoth s only_differences a b answer) (sym e) h
+  pub none_of_both : (show : Option (List ℕ)) → show ≡ None → IsReported only_differences titles a b answer → IsOfBoth show only_differences titles a b answer
+  none_of_both show e h = subst (λ (s : Option (List ℕ)). IsOfBoth s only_differences titles a b answer) (sym e) h
 
-  pub some_of_both : (show : Option (List ℕ)) (name : List ℕ) → show ≡ Some name → IsNamed name a b answer → IsOfBoth show only_differences a b answer
-  some_of_both show name e h = subst (λ (s : Option (List ℕ)). IsOfBoth s only_differences a b answer) (sym e) h
+  pub some_of_both : (show : Option (List ℕ)) (name : List ℕ) → show ≡ Some name → IsNamed name titles a b answer → IsOfBoth show only_differences titles a b answer
+  some_of_both show name e h = subst (λ (s : Option (List ℕ)). IsOfBoth s only_differences titles a b answer) (sym e) h

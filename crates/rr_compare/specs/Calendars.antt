@@ -8,7 +8,7 @@ use Rattle.rr_seam.specs.declared.file.FileRefusal.{FileRefusal}
 use Rattle.rr_seam.specs.declared.file.TheConstants.{MAX_FILE}
 use Rattle.rr_seam.specs.declared.key.Key.{Key}
 use Rattle.rr_offsets.specs.Meanings.{zones_of_text}
-use Rattle.rr_trip.specs.Zoned.{ZonedCalendar, zoned}
+use Rattle.rr_trip.specs.Zoned.{Meaning, ZonedCalendar, zoned}
 use Rattle.rr_zone.specs.Local.{in_local_time}
 use Rattle.rr_compare.specs.Languages.{language_by}
 use Rattle.rr_compare.specs.Names.{meaning_by}
@@ -35,17 +35,22 @@ keys_in f = (own_calendar f).keys
 abbrev pub stated_in : AnyFile → List ℕ → Stated
 stated_in f indexes = (own_calendar f).stated indexes
 
+-- the title of its event of this index
+abbrev pub titles_in : AnyFile → ℕ → List ℕ
+titles_in f index = (own_calendar f).titles index
+
 -- the calendar that it is
 abbrev pub calendar_in : AnyFile → Calendar
-calendar_in f = calendar_by (keys_in f) (stated_in f)
+calendar_in f = calendar_by (keys_in f) (stated_in f) (titles_in f)
 
 -- ---- the bytes of a file
 
--- the calendar that a text is in a language, beside a stated offset, or why it is refused
-abbrev pub calendar_of : Language → Option ℤ → List ℕ → Result Calendar FileRefusal
-calendar_of Ics offset text = ical_calendar offset text
-calendar_of Graph offset text = graph_calendar offset text
-calendar_of Vcal offset text = vcal_calendar offset text
+-- the calendar that a text is in a language, beside what the names of its zones mean and a stated offset, or why it is refused; a list of Graph
+-- defines no zone, and its moments of UTC are turned by what the names mean
+abbrev pub calendar_of : Language → Meaning → Option ℤ → List ℕ → Result Calendar FileRefusal
+calendar_of Ics means offset text = ical_calendar offset text
+calendar_of Graph means offset text = graph_calendar means offset text
+calendar_of Vcal means offset text = vcal_calendar offset text
 
 -- a file of iCalendar as it is read: with its moments of UTC in local time of the zones that it defines, unless it has more bytes than a
 -- file may have
@@ -64,8 +69,8 @@ offset_by (Some own) both = Some own
 offset_by None both = both
 
 -- the calendar that a file is in a language, or why it is refused
-abbrev pub calendar_as : Language → Option ℤ → List ℕ → Result Calendar FileRefusal
-calendar_as language offset bytes = calendar_of language offset (text_in language bytes)
+abbrev pub calendar_as : Language → Meaning → Option ℤ → List ℕ → Result Calendar FileRefusal
+calendar_as language means offset bytes = calendar_of language means offset (text_in language bytes)
 
 -- ---- the zones that files define
 
@@ -100,28 +105,34 @@ further_zones bytes = zones_of_text (text_within bytes)
 -- ---- a calendar with the meaning of its zones
 
 -- a calendar with what the names of its zones mean, or why its file is refused
-abbrev pub with_meaning : Result Calendar FileRefusal → (List ℕ → Option (ℤ → ℤ)) → Result ZonedCalendar FileRefusal
+abbrev pub with_meaning : Result Calendar FileRefusal → Meaning → Result ZonedCalendar FileRefusal
 with_meaning (Ok calendar) means = Ok (zoned calendar means)
 with_meaning (Err refusal) means = Err refusal
 
+-- the calendar that a file in a language is, beside a stated offset, if the names of its zones mean this
+abbrev pub zoned_by : Language → Meaning → Option ℤ → List ℕ → Result ZonedCalendar FileRefusal
+zoned_by language means offset bytes = with_meaning (calendar_as language means offset bytes) means
+
 -- the calendar that a file in a language is, by the zones of these files and its stated offset
 abbrev pub zoned_as : Language → Option ℤ → List (List (List RawLine)) → List ℕ → Result ZonedCalendar FileRefusal
-zoned_as language offset files bytes = with_meaning (calendar_as language offset bytes) (meaning_by files offset)
+zoned_as language offset files bytes = zoned_by language (meaning_by files offset) offset bytes
 
--- The calendars A and B, each file in its language: a name means what the own file defines, otherwise what the other one does, otherwise what
--- the file of further zones does.
+-- The calendar A, each file in its language: a name means what the own file defines, otherwise what the other one does, otherwise what the file of
+-- further zones does.
 abbrev pub old_as : Language → Language → Request → Texts → Result ZonedCalendar FileRefusal
 old_as a b request texts =
     zoned_as a (offset_by request.old.offset request.offset) (zones_as a texts.old ∷ zones_as b texts.new ∷ further_zones texts.zones ∷ []) texts.old
 
+-- The calendar B, likewise: its own file comes before A.
 abbrev pub new_as : Language → Language → Request → Texts → Result ZonedCalendar FileRefusal
 new_as a b request texts =
     zoned_as b (offset_by request.new.offset request.offset) (zones_as b texts.new ∷ zones_as a texts.old ∷ further_zones texts.zones ∷ []) texts.new
 
--- the language of each file
+-- the language of the file A
 abbrev pub old_language : Request → Texts → Language
 old_language request texts = language_by request.old.language texts.old
 
+-- the language of the file B
 abbrev pub new_language : Request → Texts → Language
 new_language request texts = language_by request.new.language texts.new
 

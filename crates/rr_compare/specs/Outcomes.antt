@@ -21,7 +21,8 @@ texts_in texts = record { old = texts.old.now; new = texts.new.now; zones = text
 
 -- the calendar that a text is, with what the names of its zones mean, or why it is refused
 abbrev pub text_calendar : CalendarText → Result ZonedCalendar FileRefusal
-text_calendar text = with_meaning (calendar_of text.language text.names.offset text.bytes.now) (meaning_of_names text.names)
+text_calendar text =
+    with_meaning (calendar_of text.language (meaning_of_names text.names) text.names.offset text.bytes.now) (meaning_of_names text.names)
 
 -- the calendar that was read, with what the names of its zones mean
 abbrev pub zoned_in : AnyFile → Names → ZonedCalendar

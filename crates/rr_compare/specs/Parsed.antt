@@ -2,10 +2,10 @@
 use Rattle.std.specs.Prelude.{ℕ, List, map, Option, Some, option_map}
 use Rattle.std.specs.Borrow.{Bor}
 use Rattle.rr_compare.specs.Operands.{Operand}
-use Rattle.rr_compare.specs.Words.{Asked, Given, Request, asked_of, comparison, help}
+use Rattle.rr_compare.specs.Words.{Asked, Given, Request, asked_of, comparison, help, version}
 use Rattle.rr_compare.specs.declared.operand.Operand.{Operand as ParsedOperand}
 use Rattle.rr_compare.specs.declared.words.Asked.{Asked as ParsedAsked}
-use Rattle.rr_compare.specs.declared.words.Asked.TheVariants.{Help, Comparison}
+use Rattle.rr_compare.specs.declared.words.Asked.TheVariants.{Help, Version, Comparison}
 use Rattle.rr_compare.specs.declared.words.Given.{Given as ParsedGiven}
 use Rattle.rr_compare.specs.declared.words.Request.{Request as ParsedRequest}
 
@@ -35,6 +35,7 @@ given_in given = record {
   old = file_in given.old;
   new = file_in given.new;
   only_differences = given.only_differences;
+  titles = given.titles;
   offset = given.offset;
   zones = word_in given.zones;
   show = word_in given.show;
@@ -47,6 +48,7 @@ request_in request = record {
   old = operand_in request.old;
   new = operand_in request.new;
   only_differences = request.only_differences;
+  titles = request.titles;
   offset = request.offset;
   zones = word_in request.zones;
   show = word_in request.show;
@@ -59,4 +61,5 @@ comparison_in request = Some (comparison (request_in request))
 -- what a value of the program asks
 abbrev pub asked_in : ParsedAsked → Asked
 asked_in Help = help
+asked_in Version = version
 asked_in (Comparison request) = comparison (request_in request)

@@ -7,12 +7,13 @@ use Rattle.rr_compare.specs.Operands.{Operand, operand_of}
 use Rattle.rr_compare.specs.declared.words.Next.{Next}
 use Rattle.rr_compare.specs.declared.words.Next.TheVariants.{Word, Offset, Zones, Name}
 
--- what is asked of two files: which they are, whether equal events are left out, the stated offset of both from UTC in seconds, the name of a
+-- what is asked of two files: which they are, whether equal events are left out, whether lines have titles, the stated offset of both from UTC in seconds, the name of a
 -- file that defines further zones, and that of the only event that is asked for
 pub record Request : Type 0 where
   pub old : Operand
   pub new : Operand
   pub only_differences : Bool
+  pub titles : Bool
   pub offset : Option ℤ
   pub zones : Option (List ℕ)
   pub show : Option (List ℕ)
@@ -20,6 +21,7 @@ pub record Request : Type 0 where
 -- what the words of the command ask for
 pub data Asked : Type 0 where
   help : Asked
+  version : Asked
   comparison : Request → Asked
 
 -- what the words state so far
@@ -27,6 +29,7 @@ pub record Given : Type 0 where
   pub old : Option Operand
   pub new : Option Operand
   pub only_differences : Bool
+  pub titles : Bool
   pub offset : Option ℤ
   pub zones : Option (List ℕ)
   pub show : Option (List ℕ)
@@ -34,7 +37,7 @@ pub record Given : Type 0 where
 
 -- what is stated before the first word
 abbrev pub nothing_given : Given
-nothing_given = record { old = None; new = None; only_differences = false; offset = None; zones = None; show = None; next = Word }
+nothing_given = record { old = None; new = None; only_differences = false; titles = false; offset = None; zones = None; show = None; next = Word }
 
 -- an offset from UTC: hours after their sign, a colon, and minutes
 abbrev pub offset_in : List ℕ → Option ℤ
@@ -68,10 +71,11 @@ with_name given (b ∷ bs) = Some (record given { show = Some (b ∷ bs); next =
 abbrev pub with_option : Given → List ℕ → Option Given
 with_option given word =
     if bytes_eq word (codes "--differences") && not given.only_differences then Some (record given { only_differences = true })
+    else (if bytes_eq word (codes "--titles") && not given.titles then Some (record given { titles = true })
     else (if bytes_eq word (codes "--offset") && not (is_some given.offset) then Some (record given { next = Offset })
     else (if bytes_eq word (codes "--zones") && not (is_some given.zones) then Some (record given { next = Zones })
     else (if bytes_eq word (codes "--show") && not (is_some given.show) then Some (record given { next = Name })
-    else with_file given word)))
+    else with_file given word))))
 
 -- the words so far with one word more, by what the word before asks for; None where it is refused
 abbrev pub with_next : Next → Given → List ℕ → Option Given
@@ -122,6 +126,7 @@ request_by given old new =
       old = old;
       new = new;
       only_differences = given.only_differences;
+      titles = given.titles;
       offset = given.offset;
       zones = given.zones;
       show = given.show;
@@ -131,18 +136,22 @@ request_by given old new =
 abbrev pub request_of : Given → Option Request
 request_of given = option_and_then (λ old. option_and_then (λ new. request_by given old new) given.new) given.old
 
--- the words are `--help` alone
-abbrev pub is_help : List (List ℕ) → Bool
-is_help [] = false
-is_help (word ∷ []) = bytes_eq word (codes "--help")
-is_help (word ∷ next ∷ words) = false
+-- the words are this one alone
+abbrev pub is_only : List ℕ → List (List ℕ) → Bool
+is_only wanted [] = false
+is_only wanted (word ∷ []) = bytes_eq word wanted
+is_only wanted (word ∷ next ∷ words) = false
 
 -- what the words ask, where they ask something
 unfoldable pub asked_of : List (List ℕ) → Option Asked
-asked_of words = if is_help words then Some help else option_and_then (λ given. option_map comparison (request_of given)) (given_of words)
+asked_of words =
+    if is_only (codes "--help") words then Some help
+    else (if is_only (codes "--version") words then Some version
+    else option_and_then (λ given. option_map comparison (request_of given)) (given_of words))
 
 -- what words ask of two texts alone: nothing if they name a file of further zones
 abbrev pub of_two_texts : Option Asked → Option Asked
 of_two_texts None = None
 of_two_texts (Some help) = Some help
+of_two_texts (Some version) = Some version
 of_two_texts (Some (comparison request)) = if is_some request.zones then None else Some (comparison request)

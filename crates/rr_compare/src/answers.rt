@@ -11,6 +11,7 @@ use crate::file::AnyFile;
 use crate::language::language_by;
 use crate::names::Names;
 use crate::operand::Language;
+use crate::release::VERSION;
 use crate::status::Status;
 use crate::texts::{Texts, text_in, zones_of};
 use crate::words::{Asked, HELP, Request, USAGE, parse_of_two};
@@ -63,16 +64,17 @@ fn report_outcome(
 fn comparison_outcome<W: Watch>(
     alloc: Global,
     only_differences: bool,
+    titles: bool,
     a: &AnyFile,
     names_a: &Names,
     b: &AnyFile,
     names_b: &Names,
     watch: &mut W,
 ) -> Result<Outcome, NoMemory>
-    ensures { IfOk result (λ x. IsReported only_differences (zoned_in a.now names_a.now)
+    ensures { IfOk result (λ x. IsReported only_differences titles (zoned_in a.now names_a.now)
         (zoned_in b.now names_b.now) (outcome_is x)) }
 {
-    let report = compare(alloc, a, names_a, b, names_b, watch)?;
+    let report = compare(alloc, a, names_a, b, names_b, titles, watch)?;
     report_outcome(alloc, only_differences, &report)
 }
 
@@ -90,15 +92,16 @@ fn in_utc_count(said: Option<Said>) -> usize
 fn name_outcome(
     alloc: Global,
     name: &str,
+    titles: bool,
     a: &AnyFile,
     names_a: &Names,
     b: &AnyFile,
     names_b: &Names,
 ) -> Result<Outcome, NoMemory>
-    ensures { IfOk result (λ x. IsNamed name.now (zoned_in a.now names_a.now)
+    ensures { IfOk result (λ x. IsNamed name.now titles (zoned_in a.now names_a.now)
         (zoned_in b.now names_b.now) (outcome_is x)) }
 {
-    let shown = show(alloc, a, names_a, b, names_b, name.as_bytes())?;
+    let shown = show(alloc, a, names_a, b, names_b, name.as_bytes(), titles)?;
     Ok(Outcome {
         status: status_by(shown.status),
         in_utc: in_utc_count(shown.said),
@@ -117,15 +120,25 @@ fn outcome_of_both<W: Watch>(
     watch: &mut W,
 ) -> Result<Outcome, NoMemory>
     ensures { IfOk result (λ x. IsOfBoth (request_in request.entry).show
-        request.entry.only_differences (zoned_in a.now names_a.now) (zoned_in b.now names_b.now)
+        request.entry.only_differences request.entry.titles (zoned_in a.now names_a.now) (zoned_in b.now names_b.now)
         (outcome_is x)) }
 {
     match request.show {
         None => {
             let only_differences = request.only_differences;
-            comparison_outcome(alloc, only_differences, a, names_a, b, names_b, watch)
+            let titles = request.titles;
+            comparison_outcome(
+                alloc,
+                only_differences,
+                titles,
+                a,
+                names_a,
+                b,
+                names_b,
+                watch,
+            )
         }
-        Some(name) => name_outcome(alloc, name, a, names_a, b, names_b),
+        Some(name) => name_outcome(alloc, name, request.titles, a, names_a, b, names_b),
     }
 }
 
@@ -163,7 +176,7 @@ fn outcome_beside<W: Watch>(
     ensures { IfOk result (λ x. IsComparedWith (request_in request.entry)
         (zoned_in a.now names_a.now) (text_calendar new.entry) (outcome_is x)) }
 {
-    match AnyFile::read(alloc, new.language, new.names.offset, new.bytes) {
+    match AnyFile::read(alloc, new.language, &new.names, new.bytes) {
         Ok(b) => outcome_of_both(alloc, request, a, names_a, &b, &new.names, watch),
         Err(fault) => refusal_outcome(alloc, Side::B, fault),
     }
@@ -180,7 +193,7 @@ fn compared_outcome<W: Watch>(
     ensures { IfOk result (λ x. IsCompared (request_in request.entry) (text_calendar old.entry)
         (text_calendar new.entry) (outcome_is x)) }
 {
-    match AnyFile::read(alloc, old.language, old.names.offset, old.bytes) {
+    match AnyFile::read(alloc, old.language, &old.names, old.bytes) {
         Ok(a) => outcome_beside(alloc, request, &a, &old.names, new, watch),
         Err(fault) => refusal_outcome(alloc, Side::A, fault),
     }
@@ -279,6 +292,7 @@ pub fn answer_to<W: Watch>(
     match asked {
         None => text_outcome(alloc, USAGE, Status::Usage),
         Some(Asked::Help) => text_outcome(alloc, HELP, Status::Equal),
+        Some(Asked::Version) => text_outcome(alloc, VERSION, Status::Equal),
         Some(Asked::Comparison(request)) => files_outcome(alloc, request, texts, watch),
     }
 }

@@ -1,13 +1,18 @@
 // A file of either calendar, in its language.
 ghost use Rattle.std.specs.Prelude.{◌≡◌};
 ghost use Rattle.rr_compare.specs.Calendars.{calendar_in, calendar_of};
+ghost use Rattle.rr_compare.specs.Names.{meaning_of_names};
+ghost use Rattle.rr_compare.specs.Turned.{calendar as graph_calendar};
+ghost use Rattle.rr_icalfile.specs.Calendar.{calendar as ical_calendar};
+ghost use Rattle.rr_vcalfile.specs.Files.{calendar as vcal_calendar};
 ghost use Rattle.rr_seam.specs.Files.{AnswersCalendar};
 
 use crate::graph::GraphCalendar;
+use crate::names::Names;
 use crate::operand::Language;
 use rr_icalfile::IcalFile;
-use rr_model::NoMemory;
-use rr_seam::{EventFile, FileFault, Key, KeyFault, KeySeries};
+use rr_model::{Bytes, NoMemory};
+use rr_seam::{EventFile, FileFault, Key, KeyFault, KeySeries, KeyWords};
 use rr_vcalfile::VcalFile;
 use std::alloc::Global;
 
@@ -23,19 +28,20 @@ pub enum AnyFile<'a> {
 }
 
 impl<'a> AnyFile<'a> {
-    /// The calendar that a text is in a language, or why it is refused.
+    /// The calendar that a text is in a language, beside what the names of its zones mean, or why it is refused.
     pub fn read(
         alloc: Global,
         language: Language,
-        offset: Option<i32>,
+        names: &Names,
         text: &'a [u8],
     ) -> Result<AnyFile<'a>, FileFault>
-        ensures { AnswersCalendar calendar_in (calendar_of language offset text.now) result }
+        ensures { AnswersCalendar calendar_in
+            (calendar_of language (meaning_of_names names.now) names.now.offset text.now) result }
     {
         match language {
-            Language::Ics => read_ical(alloc, offset, text),
-            Language::Graph => read_graph(alloc, offset, text),
-            Language::Vcal => read_vcal(alloc, offset, text),
+            Language::Ics => read_ical(alloc, names.offset, text),
+            Language::Graph => read_graph(alloc, names, text),
+            Language::Vcal => read_vcal(alloc, names.offset, text),
         }
     }
 }
@@ -45,7 +51,7 @@ fn read_ical<'a>(
     offset: Option<i32>,
     text: &'a [u8],
 ) -> Result<AnyFile<'a>, FileFault>
-    ensures { AnswersCalendar calendar_in (calendar_of Language.Ics offset text.now) result }
+    ensures { AnswersCalendar calendar_in (ical_calendar offset text.now) result }
 {
     match IcalFile::read(alloc, offset, text) {
         Ok(file) => Ok(AnyFile::Ics(file)),
@@ -53,14 +59,11 @@ fn read_ical<'a>(
     }
 }
 
-fn read_graph<'a>(
-    alloc: Global,
-    offset: Option<i32>,
-    text: &'a [u8],
-) -> Result<AnyFile<'a>, FileFault>
-    ensures { AnswersCalendar calendar_in (calendar_of Language.Graph offset text.now) result }
+fn read_graph<'a>(alloc: Global, names: &Names, text: &'a [u8]) -> Result<AnyFile<'a>, FileFault>
+    ensures { AnswersCalendar calendar_in
+        (graph_calendar (meaning_of_names names.now) names.now.offset text.now) result }
 {
-    match GraphCalendar::read(alloc, offset, text) {
+    match GraphCalendar::read(alloc, names, text) {
         Ok(file) => Ok(AnyFile::Graph(file)),
         Err(fault) => Err(fault),
     }
@@ -71,7 +74,7 @@ fn read_vcal<'a>(
     offset: Option<i32>,
     text: &'a [u8],
 ) -> Result<AnyFile<'a>, FileFault>
-    ensures { AnswersCalendar calendar_in (calendar_of Language.Vcal offset text.now) result }
+    ensures { AnswersCalendar calendar_in (vcal_calendar offset text.now) result }
 {
     match VcalFile::read(alloc, offset, text) {
         Ok(file) => Ok(AnyFile::Vcal(file)),
@@ -80,11 +83,13 @@ fn read_vcal<'a>(
 }
 
 impl<'a> EventFile for AnyFile<'a> {
-    ghost use Rattle.rr_compare.specs.Calendars.{keys_in, stated_in};
+    ghost use Rattle.rr_compare.specs.Calendars.{keys_in, stated_in, titles_in};
 
     ghost keys = { keys_in };
 
     ghost stated = { stated_in };
+
+    ghost titles = { titles_in };
 
     fn count(&self) -> usize {
         match self {
@@ -107,6 +112,22 @@ impl<'a> EventFile for AnyFile<'a> {
             AnyFile::Ics(file) => file.key_series(alloc, indexes),
             AnyFile::Graph(calendar) => calendar.key_series(alloc, indexes),
             AnyFile::Vcal(file) => file.key_series(alloc, indexes),
+        }
+    }
+
+    fn key_words(&self, alloc: Global, indexes: &[usize]) -> Result<KeyWords, NoMemory> {
+        match self {
+            AnyFile::Ics(file) => file.key_words(alloc, indexes),
+            AnyFile::Graph(calendar) => calendar.file.key_words(alloc, indexes),
+            AnyFile::Vcal(file) => file.key_words(alloc, indexes),
+        }
+    }
+
+    fn title(&self, alloc: Global, index: usize) -> Result<Bytes, NoMemory> {
+        match self {
+            AnyFile::Ics(file) => file.title(alloc, index),
+            AnyFile::Graph(calendar) => calendar.file.title(alloc, index),
+            AnyFile::Vcal(file) => file.title(alloc, index),
         }
     }
 }

@@ -1,15 +1,18 @@
-// A list of events of Microsoft Graph beside a stated offset.
+// A list of events of Microsoft Graph beside what the names of zones mean and a stated offset.
 ghost use Rattle.std.specs.Prelude.{◌≡◌, IfOk, map};
+ghost use Rattle.rr_compare.specs.Names.{meaning_of_names};
 ghost use Rattle.rr_compare.specs.Turned.{calendar, calendar_in, turned_zone};
 ghost use Rattle.rr_seam.specs.Files.{AnswersCalendar};
 ghost use Rattle.rr_seam.specs.Stated.{AnswersStated};
 
+use crate::names::Names;
 use rr_graphfile::GraphFile;
 use rr_model::{Bytes, NoMemory};
 use rr_seam::{EventFile, FileFault, KeyFault, KeySeries};
 use std::alloc::Global;
 
-/// A list of events of Microsoft Graph. Beside a stated offset its moments in UTC are put into local time of the observer, which has no zone.
+/// A list of events of Microsoft Graph. Beside a stated offset its moments in UTC that no zone turns are put into local time of the observer,
+/// which has no zone.
 #[derive(Drop)]
 pub struct GraphCalendar {
     /// The list.
@@ -42,13 +45,14 @@ fn turned_zones(alloc: Global, is_turned: bool, zones: &[Bytes]) -> Result<Vec<B
 
 impl GraphCalendar {
     /// The calendar that a text is, or why it is refused.
-    pub fn read(alloc: Global, offset: Option<i32>, text: &[u8]) -> Result<GraphCalendar, FileFault>
-        ensures { AnswersCalendar calendar_in (calendar offset text.now) result }
+    pub fn read(alloc: Global, names: &Names, text: &[u8]) -> Result<GraphCalendar, FileFault>
+        ensures { AnswersCalendar calendar_in
+            (calendar (meaning_of_names names.now) names.now.offset text.now) result }
     {
-        match GraphFile::read(alloc, offset, text) {
+        match GraphFile::read(alloc, names, names.offset, text) {
             Ok(file) => Ok(GraphCalendar {
                 file,
-                is_turned: offset.is_some(),
+                is_turned: names.offset.is_some(),
             }),
             Err(fault) => Err(fault),
         }

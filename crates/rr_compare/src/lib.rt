@@ -7,6 +7,7 @@ mod graph;
 mod language;
 mod names;
 mod operand;
+mod release;
 mod status;
 mod texts;
 mod words;

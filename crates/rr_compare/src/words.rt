@@ -1,6 +1,6 @@
 // The words of the command line.
 ghost use Rattle.std.specs.Prelude.{◌≡◌, option_map};
-ghost use Rattle.rr_compare.specs.Words.{given_of, is_help, is_input, is_word, of_two_texts, offset_in, request_of, share_input, with_file, with_name, with_offset, with_operand, with_option, with_word, with_zones};
+ghost use Rattle.rr_compare.specs.Words.{given_of, is_input, is_only, is_word, of_two_texts, offset_in, request_of, share_input, with_file, with_name, with_offset, with_operand, with_option, with_word, with_zones};
 ghost use Rattle.rr_compare.specs.Parsed.{asked_in, asked_of_words, given_in, operand_in, request_in, word_in, words_of};
 
 use crate::operand::{Operand, operand_of};
@@ -8,41 +8,45 @@ use rr_text::offset_of;
 
 /// What is said of words that ask nothing.
 pub const USAGE: &[u8] =
-    b"usage: rr-calendars OLD NEW [--differences] [--offset +HH:MM] [--zones FILE] [--show UID]\n";
+    b"usage: rr-calendars OLD NEW [--differences] [--titles] [--offset +HH:MM] [--zones FILE] [--show UID]\n";
 
 /// The page of help.
 pub const HELP: &[u8] =
     b"rr-calendars says of two calendar files whether each event survived the trip between them, for all years to come.
 
-  rr-calendars OLD NEW [--differences] [--offset +HH:MM] [--zones FILE] [--show UID]
+  rr-calendars OLD NEW [--differences] [--titles] [--offset +HH:MM] [--zones FILE] [--show UID]
+  rr-calendars --help, this page, or --version, the release
 
 OLD and NEW are calendar files of at most 64 MiB; one of the two may be - for standard input. Before a name its language may stand:
-ics: for iCalendar (RFC 5545), graph: for a list of events of Microsoft Graph in JSON, vcal: for vCalendar 1.0. A bare name is told by
-its content. graph@+01:00:NAME states local time less UTC for this file alone. A file whose own name begins so is ./graph:NAME.
+ics: for iCalendar (RFC 5545), graph: for a list of events of Microsoft Graph in JSON, vcal: for vCalendar 1.0. A bare name is told
+by its content. graph@+01:00:NAME states local time less UTC for this file alone. A file whose own name begins so is ./graph:NAME.
 Events are found again by their UID, those of Graph by their iCalUId. There is a line for each, in the order of their UIDs:
 
   equal UID                           the same occurrences, at the same moments
   differs UID no MOMENT A             the first occurrence that only OLD (A) or only NEW (B) has
   differs UID floating A              this side has neither a zone nor UTC, and the other side has
-  only A UID                          only this file has the event
+  only A UID                          only this file has the event; one that is cancelled is equal
   refused UID A REASON LINE           the event cannot be read, with the line in the file, of Graph the number of the event
+  alike UID A REASON LINE             neither file's event can be read, and both files state it in the same words
 
 Times are compared as moments if the zones of both sides are defined: by a VTIMEZONE of the same file, of the other one, or of FILE,
-where Windows' names stand for those of tzdata. Behind a moment stands then how far local time is ahead of UTC, or Z. Otherwise local
-times are compared. Behind a line stands zone if local times are equal, and the zones are not, or are not known to be.
---differences leaves out the lines of equal events without zone. Moments of UTC beside local time are read by the zones that the file
-defines; --offset states local time less UTC, for those that no zone turns, and for events without a zone.
+where Windows' names stand for those of tzdata. Behind a moment stands then how far local time is ahead of UTC, or Z. Otherwise
+local times are compared. Behind a line stands zone if local times are equal, and the zones are not, or are not known to be.
+--differences leaves out the lines of equal events without zone. --titles ends each line with the title of its event between quotes,
+that of OLD if it has the event, otherwise that of NEW; bytes of it that are not visible are printed as x and two digits.
+Moments of UTC beside local time are read by the zones that the file defines; --offset states local time less UTC, for those that no
+zone turns, and for events without a zone.
 The last line counts them all. On a terminal a comparison of more than a second says how far it is.
 
---show UID prints the line of this event alone, the UID as it is printed here, and below it, where it differs, how many differences
-more there are and until when (more 51 until MOMENT, more 0, more for ever, more 9999 at least), and the month of the first one and
-the two after it, Monday first: = for a day with the same times in both, x for one with others, A and B for a day that this file
-alone has, . for one that none has; then the days with others than the usual times. Of a UID that neither file has it prints
-unknown UID, with status 2.
+--show UID prints the line of this event alone, and below it, if it differs, how many differences more there are and until when
+(more 51 until MOMENT, more 0, more for ever, more 9999 at least), and of the month of the first one and the two after it those that
+have a difference. Behind the number of each day, Monday first, stands = if both have it at the same times, x if both have it at
+others, A or B if this file alone has it, . if none has; then the usual times, and the days with others. UID is as it is printed
+here; if it is none, but the title of the events of one UID alone, that one is shown. Of others it prints unknown UID, status 2.
 
-The status is 0 where all are equal, 1 where one differs or stands in one file alone, 2 where none does but one is refused, or is
-equal with zone behind it, 3 for other words, 4 where a file could not be read, 5 where the output could not be written, 6 out of
-memory, 7 where a word is no text in UTF-8.
+The status is 0 if all are equal or alike, 1 if one differs or stands in one file alone, 2 if none does but one is refused, or is
+equal with zone behind it, 3 for other words, 4 if a file could not be read, 5 if the output could not be written, 6 out of memory,
+7 if a word is no text in UTF-8.
 ";
 
 /// What is asked of two files.
@@ -54,6 +58,8 @@ pub struct Request<'a> {
     pub new: Operand<'a>,
     /// Whether the lines of equal events are left out.
     pub only_differences: bool,
+    /// Whether each line ends with the title of its event.
+    pub titles: bool,
     /// The stated offset of a file that has none of its own, local time less UTC, in seconds.
     pub offset: Option<i32>,
     /// The name of a file that defines further zones, which is not empty.
@@ -67,6 +73,8 @@ pub struct Request<'a> {
 pub enum Asked<'a> {
     /// The page of help.
     Help,
+    /// The line that names the release.
+    Version,
     /// A comparison.
     Comparison(Request<'a>),
 }
@@ -90,6 +98,7 @@ struct Given<'a> {
     old: Option<Operand<'a>>,
     new: Option<Operand<'a>>,
     only_differences: bool,
+    titles: bool,
     offset: Option<i32>,
     zones: Option<&'a str>,
     show: Option<&'a str>,
@@ -184,6 +193,10 @@ fn with_option<'a>(given: Given<'a>, word: &'a str) -> Option<Given<'a>>
             only_differences: true,
             ..given
         }),
+        "--titles" if !given.titles => Some(Given {
+            titles: true,
+            ..given
+        }),
         "--offset" if given.offset.is_none() => Some(Given {
             next: Next::Offset,
             ..given
@@ -220,6 +233,7 @@ fn given_of<'a>(words: &[&'a str]) -> Option<Given<'a>>
         old: None,
         new: None,
         only_differences: false,
+        titles: false,
         offset: None,
         zones: None,
         show: None,
@@ -270,30 +284,34 @@ fn request_of<'a>(given: Given<'a>) -> Option<Request<'a>>
         old,
         new,
         only_differences: given.only_differences,
+        titles: given.titles,
         offset: given.offset,
         zones: given.zones,
         show: given.show,
     })
 }
 
-// Whether `--help` is the only word.
-fn is_help(words: &[&str]) -> bool
-    ensures { result ≡ is_help (words_of words.now) }
+// Whether this is the only word.
+fn is_only(word: &str, words: &[&str]) -> bool
+    ensures { result ≡ is_only word.now (words_of words.now) }
 {
     if words.len() != 1 {
         return false;
     }
-    words[0] == "--help"
+    words[0] == word
 }
 
-/// What the words ask, where they ask something: `--help` alone, or two files, with `--differences`, `--offset`, `--zones` and
-/// `--show` at any place.
+/// What the words ask, where they ask something: `--help` or `--version` alone, or two files, with `--differences`, `--titles`, `--offset`,
+/// `--zones` and `--show` at any place.
 #[tactic(auto, unfolding(crate::specs::Words::asked_of))]
 pub fn parse<'a>(words: &[&'a str]) -> Option<Asked<'a>>
     ensures { option_map asked_in result ≡ asked_of_words words.now }
 {
-    if is_help(words) {
+    if is_only("--help", words) {
         return Some(Asked::Help);
+    }
+    if is_only("--version", words) {
+        return Some(Asked::Version);
     }
     let given = given_of(words)?;
     Some(Asked::Comparison(request_of(given)?))
