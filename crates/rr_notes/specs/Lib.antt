@@ -1,1 +1,4 @@
+pub mod Advice
+pub mod GraphNotes
+pub mod Starts
 pub mod Visible

@@ -1,9 +1,17 @@
 // What `rr-calendars` notes: which of its words is wrong, and what to do about an answer.
+ghost use Rattle.std.specs.Prelude.{◌≡◌, option_map, string_bytes, IfOk};
+ghost use Rattle.rr_notes.specs.Advice.{note_on_calendar_refusal, note_on_utc};
 ghost use Rattle.rr_notes.specs.Visible.{IsVisibleNote};
 
 use crate::visible::{shown, visible};
 use rr_text::offset_of;
 use std::alloc::{AllocError, Global};
+
+const NO_EVENTS: &str =
+    "the file is no whole calendar: 'rr' reads one event alone, and here a Graph event between [ and ] is a list";
+
+const MORE_PAGES: &str =
+    "the file is one page of a list: join it with those that '@odata.nextLink' leads to";
 
 // Whether a word is an option with a word of its own behind it.
 fn takes_word(option: &str) -> bool {
@@ -77,14 +85,16 @@ fn note_on_option(alloc: Global, word: &str) -> Result<Option<String>, AllocErro
     }
     match word {
         "--differences" => Ok(None),
+        "--titles" => Ok(None),
         "--offset" => Ok(None),
         "--zones" => Ok(None),
         "--show" => Ok(None),
         "--help" => Ok(Some(format!(in alloc; "--help stands alone")?)),
+        "--version" => Ok(Some(format!(in alloc; "--version stands alone")?)),
         _ => {
             let word = shown(alloc, word)?;
             Ok(Some(format!(in alloc;
-                "{word} is no option: these are --differences, --offset, --zones, --show and --help"
+                "{word} is no option: these are --differences, --titles, --offset, --zones, --show and --help"
             )?))
         }
     }
@@ -177,24 +187,26 @@ pub fn note_on_calendar_words(alloc: Global, words: &[&str]) -> Result<String, A
 }
 
 /// What to do about the refusal of a file that an answer begins with. The first 64 bytes of the answer are enough.
-pub fn note_on_calendar_refusal(answer: &[u8]) -> Option<&'static str> {
-    match answer {
-        b"refused A NoEvents\n" | b"refused B NoEvents\n" => {
-            Some(
-                "the file is no whole calendar: 'rr' reads one event alone, and here a Graph event between [ and ] is a list",
-            )
-        }
-        b"refused A MorePages\n" | b"refused B MorePages\n" => {
-            Some(
-                "the file is one page of a list: join it with those that '@odata.nextLink' leads to",
-            )
-        }
-        _ => None,
+pub fn note_on_calendar_refusal(answer: &[u8]) -> Option<&'static str>
+    ensures { option_map (λ text. text.now) result ≡ note_on_calendar_refusal answer.now }
+{
+    if answer == b"refused A NoEvents\n".as_slice()
+        || answer == b"refused B NoEvents\n".as_slice()
+    {
+        Some(NO_EVENTS)
+    } else if answer == b"refused A MorePages\n".as_slice()
+        || answer == b"refused B MorePages\n".as_slice()
+    {
+        Some(MORE_PAGES)
+    } else {
+        None
     }
 }
 
 /// How many events were not compared for want of an offset, if any.
-pub fn note_on_utc(alloc: Global, count: usize) -> Result<Option<String>, AllocError> {
+pub fn note_on_utc(alloc: Global, count: usize) -> Result<Option<String>, AllocError>
+    ensures { IfOk result (λ note. option_map string_bytes note ≡ note_on_utc count) }
+{
     if count == 0 {
         return Ok(None);
     }

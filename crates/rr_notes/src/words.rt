@@ -14,18 +14,37 @@ struct Given<'a> {
     rest: &'a [&'a str],
 }
 
-// What is wanted after the name of a command, if the table has it.
-fn form_of<'a>(forms: &'a str, name: &str) -> Option<&'a str> {
+// Whether a word of the table stands for itself, as the language of a plan.
+fn is_itself(wanted: &str) -> bool {
+    !wanted.is_empty() && wanted.bytes().all(|byte| byte.is_ascii_lowercase())
+}
+
+// Whether each word of the table that stands for itself stands in its place, as far as there are words.
+fn fits(form: &str, rest: &[&str]) -> bool {
+    for (wanted, word) in form.split(' ').zip(rest) {
+        if is_itself(wanted) && wanted != *word {
+            return false;
+        }
+    }
+    true
+}
+
+// What is wanted after the name of a command, if the table has it: of several lines that of the first which the words fit, or the first.
+fn form_of<'a>(forms: &'a str, name: &str, rest: &[&str]) -> Option<&'a str> {
+    let mut first = None;
     for line in forms.lines() {
-        let (first, words) = match line.split_once(' ') {
+        let (command, words) = match line.split_once(' ') {
             None => (line, ""),
             Some(parts) => parts,
         };
-        if first == name {
+        if command == name && fits(words, rest) {
             return Some(words);
         }
+        if command == name && first.is_none() {
+            first = Some(words);
+        }
     }
-    None
+    first
 }
 
 // Whether a word is one of these, which stand with blanks between them.
@@ -186,7 +205,7 @@ fn note_on_moment(alloc: Global, word: &str) -> Result<Option<String>, AllocErro
 
 // What is wrong with a word in the place of a command's name.
 fn note_on_name(alloc: Global, word: &str) -> Result<Option<String>, AllocError> {
-    if form_of(FORMS, word).is_some() {
+    if form_of(FORMS, word, &[]).is_some() {
         return Ok(None);
     }
     let word = shown(alloc, word)?;
@@ -306,7 +325,7 @@ fn text_on_words(alloc: Global, words: &[&str]) -> Result<String, AllocError> {
         return format!(in alloc; "a command is wanted: 'rr help' lists them");
     };
     let name = first_spelling(name);
-    match form_of(FORMS, name) {
+    match form_of(FORMS, name, rest) {
         Some(form) => text_on_given(alloc, Given { name, form, rest }),
         None => {
             let name = shown(alloc, name)?;
