@@ -22,8 +22,8 @@ extern "C" {
 /* What all three return: the exit statuses of the programs rr and rr-calendars, and RR_TOO_SMALL. They return no other number; the programs'
  * statuses 4 and 5 are those of files. */
 enum rr_status {
-    RR_YES = 0,       /* the verdict is yes, or a command without a verdict is done; all events of two calendars are equal; a candidate is clear
-                       * of all others */
+    RR_YES = 0,       /* the verdict is yes, or a command without a verdict is done; all events of two calendars are equal or alike; a
+                       * candidate is clear of all others */
     RR_NO = 1,        /* the verdict is no, and `out` names the first counterexample; nth finds fewer occurrences, differences some, and
                        * between more than it prints; an event differs, or stands in one calendar alone; a candidate clashes with one of the
                        * others */
@@ -187,7 +187,9 @@ enum rr_said {
     RR_SAID_EQUAL,   /* both calendars have the same occurrences of it, at the same moments, for ever */
     RR_SAID_DIFFERS, /* they do not */
     RR_SAID_ONLY,    /* one calendar alone has events of it */
-    RR_SAID_REFUSED  /* its events in one calendar can't be compared */
+    RR_SAID_REFUSED, /* its events in one calendar can't be compared */
+    RR_SAID_ALIKE    /* its events can't be compared, and both calendars state them in the same words: the trip has changed nothing of them, so it
+                      * is no fault */
 };
 
 /* A line of that report. Its texts are parts of the line, so no zero byte stands behind them. */
@@ -195,15 +197,19 @@ struct rr_report_line {
     enum rr_said said;
     const char *key;         /* the UID as it is printed, or "line 12" for an event without one, of Graph "event 12" */
     size_t key_length;
-    enum rr_side side;       /* unless equal: whose occurrence it is, which calendar has it, or in which it is refused */
+    enum rr_side side;       /* unless equal: whose occurrence it is, which calendar has it, or in which it is refused; after RR_SAID_ALIKE: RR_A */
     struct rr_moment moment; /* after RR_SAID_DIFFERS, unless is_floating: the first occurrence that only one of them has, in local time of that side */
     int has_offset;          /* moments of UTC were compared: it is known how far that local time is ahead of UTC */
     int offset;              /* if has_offset: how far, in seconds */
     int is_floating;         /* after RR_SAID_DIFFERS: the side states neither a zone nor UTC, and the other one does; there is no moment */
-    const char *refusal;     /* after RR_SAID_REFUSED: why, as "UtcMoment 124" */
+    const char *refusal;     /* after RR_SAID_REFUSED and RR_SAID_ALIKE: why, as "UtcMoment 124" */
     size_t refusal_length;
     int has_other_zone;      /* after RR_SAID_EQUAL: local times are equal, but the zones have other names, and not both are defined; after
                               * RR_SAID_DIFFERS: local times are equal for ever, and the zones alone differ */
+    const char *title;       /* after the word --titles: the title of its first event in A, otherwise in B, in UTF-8 as it is printed, each quote,
+                              * backslash and byte that is not of a visible character as \xHH; of no bytes if the event has none. NULL
+                              * without that word */
+    size_t title_length;
 };
 
 /* Reads this text, and says whether it is there. */
@@ -272,19 +278,38 @@ static inline int rr_read_difference(const char **text, size_t *left, struct rr_
     return rr_read_side(text, left, &line->side);
 }
 
-/* Reads what stands in a line behind its first word. */
+/* Reads why events are refused: all that is left, or all before a title. No refusal has a quote. */
+static inline int rr_read_refusal(const char **text, size_t *left, struct rr_report_line *line)
+{
+    if (!rr_read_byte(text, left, ' ') || !rr_read_side(text, left, &line->side) || !rr_read_byte(text, left, ' '))
+        return 0;
+    line->refusal = *text;
+    while (*left > 0 && !(*left > 1 && (*text)[0] == ' ' && (*text)[1] == '"'))
+        ++*text, --*left;
+    line->refusal_length = (size_t)(*text - line->refusal);
+    return 1;
+}
+
+/* Reads a title between quotes, behind a blank, if one is there, and says whether nothing is wrong with it. */
+static inline int rr_read_title(const char **text, size_t *left, struct rr_report_line *line)
+{
+    if (!rr_read_text(text, left, " \""))
+        return 1;
+    line->title = *text;
+    while (*left > 0 && **text != '"')
+        ++*text, --*left;
+    line->title_length = (size_t)(*text - line->title);
+    return rr_read_byte(text, left, '"');
+}
+
+/* Reads what stands in a line behind its first word, before its title. */
 static inline int rr_read_said(const char **text, size_t *left, struct rr_report_line *line)
 {
     if (line->said == RR_SAID_ONLY && !(rr_read_side(text, left, &line->side) && rr_read_byte(text, left, ' ')))
         return 0;
     rr_read_key(text, left, line);
-    if (line->said == RR_SAID_REFUSED) {
-        if (!rr_read_byte(text, left, ' ') || !rr_read_side(text, left, &line->side) || !rr_read_byte(text, left, ' '))
-            return 0;
-        line->refusal = *text, line->refusal_length = *left;
-        *text += *left, *left = 0;
-        return 1;
-    }
+    if (line->said == RR_SAID_REFUSED || line->said == RR_SAID_ALIKE)
+        return rr_read_refusal(text, left, line);
     if (line->said == RR_SAID_DIFFERS && !rr_read_difference(text, left, line))
         return 0;
     line->has_other_zone = line->said != RR_SAID_ONLY && rr_read_text(text, left, " zone");
@@ -295,18 +320,18 @@ static inline int rr_read_said(const char **text, size_t *left, struct rr_report
  * it; otherwise it leaves both as they are: at the last line, which counts, at the refusal of a whole calendar, and at the end. */
 static inline int rr_read_report_line(const char **text, size_t *left, struct rr_report_line *line)
 {
-    static const char *const words[] = { "equal ", "differs ", "only ", "refused " };
+    static const char *const words[] = { "equal ", "differs ", "only ", "refused ", "alike " };
     const char *at = *text, *end = *left ? (const char *)memchr(*text, '\n', *left) : NULL;
     size_t count = end ? (size_t)(end - *text) : *left, whole = end ? count + 1 : count;
     int word = 0;
 
     memset(line, 0, sizeof *line);
-    while (word < 4 && !rr_read_text(&at, &count, words[word]))
+    while (word < 5 && !rr_read_text(&at, &count, words[word]))
         word++;
-    if (word == 4)
+    if (word == 5)
         return 0;
     line->said = (enum rr_said)word;
-    if (!rr_read_said(&at, &count, line) || count > 0 || line->key_length == 0)
+    if (!rr_read_said(&at, &count, line) || !rr_read_title(&at, &count, line) || count > 0 || line->key_length == 0)
         return 0;
     *text += whole;
     *left -= whole;

@@ -1,4 +1,4 @@
-/* Says of each event of two calendars that differs what differs, in words: calendars OLD.ics NEW.ics.
+/* Says of each event of two calendars that is not equal in both what differs, by its title and in words: calendars OLD.ics NEW.ics.
  *
  * At the top of the repository: cc -Iinclude -o calendars examples/c/calendars.c release/librr-x86_64-linux.a
  */
@@ -25,6 +25,8 @@ static void tell(const struct rr_report_line *line)
     static const char *const calendars[] = { "the old calendar", "the new calendar" };
     const struct rr_moment *first = &line->moment;
 
+    if (line->title_length > 0)
+        printf("%.*s, ", (int)line->title_length, line->title);
     printf("%.*s: ", (int)line->key_length, line->key);
     switch (line->said) {
     case RR_SAID_EQUAL:
@@ -50,12 +52,15 @@ static void tell(const struct rr_report_line *line)
     case RR_SAID_REFUSED:
         printf("can't be read in %s, for %.*s\n", calendars[line->side], (int)line->refusal_length, line->refusal);
         break;
+    case RR_SAID_ALIKE:
+        printf("in the same words in both, which can't be read, for %.*s\n", (int)line->refusal_length, line->refusal);
+        break;
     }
 }
 
 int main(int count, char **names)
 {
-    static const char words[] = "old\0new\0--differences";
+    static const char words[] = "old\0new\0--differences\0--titles";
     static uint8_t old[MOST], new[MOST];
     uint64_t length = 4096;
     char *out = NULL;

@@ -55,38 +55,60 @@ struct report_row {
     int has_offset;
     int offset;
     int is_floating;
+    const char *title;
 };
 
 static const struct report_row report_rows[] = {
-    { "equal a@b\n", 1, RR_SAID_EQUAL, "a@b", RR_A, { 0, 0, 0, 0, 0, 0, 0 }, "", 0, 0, 0, 0 },
-    { "equal zone zone\n", 1, RR_SAID_EQUAL, "zone", RR_A, { 0, 0, 0, 0, 0, 0, 0 }, "", 1, 0, 0, 0 },
-    { "equal line 12 zone", 1, RR_SAID_EQUAL, "line 12", RR_A, { 0, 0, 0, 0, 0, 0, 0 }, "", 1, 0, 0, 0 },
-    { "equal line zone\n", 1, RR_SAID_EQUAL, "line", RR_A, { 0, 0, 0, 0, 0, 0, 0 }, "", 1, 0, 0, 0 },
-    { "differs u no 2024-06-28 A\nequal v\n", 1, RR_SAID_DIFFERS, "u", RR_A, { 2024, 6, 28, 1, 0, 0, 0 }, "", 0, 0, 0, 0 },
-    { "differs no no 2024-06-28T09:30:00 B zone\n", 1, RR_SAID_DIFFERS, "no", RR_B, { 2024, 6, 28, 0, 9, 30, 0 }, "", 1, 0, 0, 0 },
-    { "differs u no 2024-04-01T09:00:00+02:00 A\n", 1, RR_SAID_DIFFERS, "u", RR_A, { 2024, 4, 1, 0, 9, 0, 0 }, "", 0, 1, 7200, 0 },
-    { "differs u no 2024-04-01T09:00:00-03:30 B zone\n", 1, RR_SAID_DIFFERS, "u", RR_B, { 2024, 4, 1, 0, 9, 0, 0 }, "", 1, 1, -12600, 0 },
-    { "differs u no 2024-04-01T09:00:00Z A\n", 1, RR_SAID_DIFFERS, "u", RR_A, { 2024, 4, 1, 0, 9, 0, 0 }, "", 0, 1, 0, 0 },
-    { "differs u no 2024-04-01T09:00:00+00:53:28 A\n", 1, RR_SAID_DIFFERS, "u", RR_A, { 2024, 4, 1, 0, 9, 0, 0 }, "", 0, 1, 3208, 0 },
-    { "differs u floating B\n", 1, RR_SAID_DIFFERS, "u", RR_B, { 0, 0, 0, 0, 0, 0, 0 }, "", 0, 0, 0, 1 },
-    { "differs floating floating A\n", 1, RR_SAID_DIFFERS, "floating", RR_A, { 0, 0, 0, 0, 0, 0, 0 }, "", 0, 0, 0, 1 },
-    { "differs u no 2024-04-01T09:00:00+2 A\n", 0, RR_SAID_EQUAL, "", RR_A, { 0, 0, 0, 0, 0, 0, 0 }, "", 0, 0, 0, 0 },
-    { "differs u floating\n", 0, RR_SAID_EQUAL, "", RR_A, { 0, 0, 0, 0, 0, 0, 0 }, "", 0, 0, 0, 0 },
-    { "only A line 3\n", 1, RR_SAID_ONLY, "line 3", RR_A, { 0, 0, 0, 0, 0, 0, 0 }, "", 0, 0, 0, 0 },
-    { "only B event 8\n", 1, RR_SAID_ONLY, "event 8", RR_B, { 0, 0, 0, 0, 0, 0, 0 }, "", 0, 0, 0, 0 },
-    { "equal event zone\n", 1, RR_SAID_EQUAL, "event", RR_A, { 0, 0, 0, 0, 0, 0, 0 }, "", 1, 0, 0, 0 },
-    { "refused event 7 B NoMaster 7\n", 1, RR_SAID_REFUSED, "event 7", RR_B, { 0, 0, 0, 0, 0, 0, 0 }, "NoMaster 7", 0, 0, 0, 0 },
-    { "only B B\n", 1, RR_SAID_ONLY, "B", RR_B, { 0, 0, 0, 0, 0, 0, 0 }, "", 0, 0, 0, 0 },
-    { "refused A B UtcMoment 124\n", 1, RR_SAID_REFUSED, "A", RR_B, { 0, 0, 0, 0, 0, 0, 0 }, "UtcMoment 124", 0, 0, 0, 0 },
-    { "refused line 7 A NoStart 7\n", 1, RR_SAID_REFUSED, "line 7", RR_A, { 0, 0, 0, 0, 0, 0, 0 }, "NoStart 7", 0, 0, 0, 0 },
-    { "refused B BadLine 3\n", 0, RR_SAID_EQUAL, "", RR_A, { 0, 0, 0, 0, 0, 0, 0 }, "", 0, 0, 0, 0 },
-    { "refused A NoEvents\n", 0, RR_SAID_EQUAL, "", RR_A, { 0, 0, 0, 0, 0, 0, 0 }, "", 0, 0, 0, 0 },
-    { "events 0 equal 0 differs 0 only-A 0 only-B 0 refused 0\n", 0, RR_SAID_EQUAL, "", RR_A, { 0, 0, 0, 0, 0, 0, 0 }, "", 0, 0, 0, 0 },
-    { "equal \n", 0, RR_SAID_EQUAL, "", RR_A, { 0, 0, 0, 0, 0, 0, 0 }, "", 0, 0, 0, 0 },
-    { "equal a b\n", 0, RR_SAID_EQUAL, "", RR_A, { 0, 0, 0, 0, 0, 0, 0 }, "", 0, 0, 0, 0 },
-    { "only C a\n", 0, RR_SAID_EQUAL, "", RR_A, { 0, 0, 0, 0, 0, 0, 0 }, "", 0, 0, 0, 0 },
-    { "differs u no 2024-06-28 both\n", 0, RR_SAID_EQUAL, "", RR_A, { 0, 0, 0, 0, 0, 0, 0 }, "", 0, 0, 0, 0 },
-    { "", 0, RR_SAID_EQUAL, "", RR_A, { 0, 0, 0, 0, 0, 0, 0 }, "", 0, 0, 0, 0 },
+    { "equal a@b\n", 1, RR_SAID_EQUAL, "a@b", RR_A, { 0, 0, 0, 0, 0, 0, 0 }, "", 0, 0, 0, 0, NULL },
+    { "equal zone zone\n", 1, RR_SAID_EQUAL, "zone", RR_A, { 0, 0, 0, 0, 0, 0, 0 }, "", 1, 0, 0, 0, NULL },
+    { "equal line 12 zone", 1, RR_SAID_EQUAL, "line 12", RR_A, { 0, 0, 0, 0, 0, 0, 0 }, "", 1, 0, 0, 0, NULL },
+    { "equal line zone\n", 1, RR_SAID_EQUAL, "line", RR_A, { 0, 0, 0, 0, 0, 0, 0 }, "", 1, 0, 0, 0, NULL },
+    { "differs u no 2024-06-28 A\nequal v\n", 1, RR_SAID_DIFFERS, "u", RR_A, { 2024, 6, 28, 1, 0, 0, 0 }, "", 0, 0, 0, 0, NULL },
+    { "differs no no 2024-06-28T09:30:00 B zone\n", 1, RR_SAID_DIFFERS, "no", RR_B, { 2024, 6, 28, 0, 9, 30, 0 }, "", 1, 0, 0, 0, NULL },
+    { "differs u no 2024-04-01T09:00:00+02:00 A\n", 1, RR_SAID_DIFFERS, "u", RR_A, { 2024, 4, 1, 0, 9, 0, 0 }, "", 0, 1, 7200, 0, NULL },
+    { "differs u no 2024-04-01T09:00:00-03:30 B zone\n", 1, RR_SAID_DIFFERS, "u", RR_B, { 2024, 4, 1, 0, 9, 0, 0 }, "", 1, 1, -12600, 0, NULL },
+    { "differs u no 2024-04-01T09:00:00Z A\n", 1, RR_SAID_DIFFERS, "u", RR_A, { 2024, 4, 1, 0, 9, 0, 0 }, "", 0, 1, 0, 0, NULL },
+    { "differs u no 2024-04-01T09:00:00+00:53:28 A\n", 1, RR_SAID_DIFFERS, "u", RR_A, { 2024, 4, 1, 0, 9, 0, 0 }, "", 0, 1, 3208, 0, NULL },
+    { "differs u floating B\n", 1, RR_SAID_DIFFERS, "u", RR_B, { 0, 0, 0, 0, 0, 0, 0 }, "", 0, 0, 0, 1, NULL },
+    { "differs floating floating A\n", 1, RR_SAID_DIFFERS, "floating", RR_A, { 0, 0, 0, 0, 0, 0, 0 }, "", 0, 0, 0, 1, NULL },
+    { "differs u no 2024-04-01T09:00:00+2 A\n", 0, RR_SAID_EQUAL, "", RR_A, { 0, 0, 0, 0, 0, 0, 0 }, "", 0, 0, 0, 0, NULL },
+    { "differs u floating\n", 0, RR_SAID_EQUAL, "", RR_A, { 0, 0, 0, 0, 0, 0, 0 }, "", 0, 0, 0, 0, NULL },
+    { "only A line 3\n", 1, RR_SAID_ONLY, "line 3", RR_A, { 0, 0, 0, 0, 0, 0, 0 }, "", 0, 0, 0, 0, NULL },
+    { "only B event 8\n", 1, RR_SAID_ONLY, "event 8", RR_B, { 0, 0, 0, 0, 0, 0, 0 }, "", 0, 0, 0, 0, NULL },
+    { "equal event zone\n", 1, RR_SAID_EQUAL, "event", RR_A, { 0, 0, 0, 0, 0, 0, 0 }, "", 1, 0, 0, 0, NULL },
+    { "refused event 7 B NoMaster 7\n", 1, RR_SAID_REFUSED, "event 7", RR_B, { 0, 0, 0, 0, 0, 0, 0 }, "NoMaster 7", 0, 0, 0, 0, NULL },
+    { "only B B\n", 1, RR_SAID_ONLY, "B", RR_B, { 0, 0, 0, 0, 0, 0, 0 }, "", 0, 0, 0, 0, NULL },
+    { "refused A B UtcMoment 124\n", 1, RR_SAID_REFUSED, "A", RR_B, { 0, 0, 0, 0, 0, 0, 0 }, "UtcMoment 124", 0, 0, 0, 0, NULL },
+    { "refused line 7 A NoStart 7\n", 1, RR_SAID_REFUSED, "line 7", RR_A, { 0, 0, 0, 0, 0, 0, 0 }, "NoStart 7", 0, 0, 0, 0, NULL },
+    { "refused B BadLine 3\n", 0, RR_SAID_EQUAL, "", RR_A, { 0, 0, 0, 0, 0, 0, 0 }, "", 0, 0, 0, 0, NULL },
+    { "refused A NoEvents\n", 0, RR_SAID_EQUAL, "", RR_A, { 0, 0, 0, 0, 0, 0, 0 }, "", 0, 0, 0, 0, NULL },
+    { "events 0 equal 0 differs 0 only-A 0 only-B 0 refused 0\n", 0, RR_SAID_EQUAL, "", RR_A, { 0, 0, 0, 0, 0, 0, 0 }, "", 0, 0, 0, 0, NULL },
+    { "equal \n", 0, RR_SAID_EQUAL, "", RR_A, { 0, 0, 0, 0, 0, 0, 0 }, "", 0, 0, 0, 0, NULL },
+    { "equal a b\n", 0, RR_SAID_EQUAL, "", RR_A, { 0, 0, 0, 0, 0, 0, 0 }, "", 0, 0, 0, 0, NULL },
+    { "only C a\n", 0, RR_SAID_EQUAL, "", RR_A, { 0, 0, 0, 0, 0, 0, 0 }, "", 0, 0, 0, 0, NULL },
+    { "differs u no 2024-06-28 both\n", 0, RR_SAID_EQUAL, "", RR_A, { 0, 0, 0, 0, 0, 0, 0 }, "", 0, 0, 0, 0, NULL },
+    { "alike u A NotSynchronised 1\n", 1, RR_SAID_ALIKE, "u", RR_A, { 0, 0, 0, 0, 0, 0, 0 }, "NotSynchronised 1", 0, 0, 0, 0, NULL },
+    { "alike event 7 A BadMember recurrence 7 \"\"", 1, RR_SAID_ALIKE, "event 7", RR_A, { 0, 0, 0, 0, 0, 0, 0 }, "BadMember recurrence 7", 0, 0, 0, 0, "" },
+    { "alike A A PeriodValue 132 \"A 'b' \\x22\"\nequal v\n", 1, RR_SAID_ALIKE, "A", RR_A, { 0, 0, 0, 0, 0, 0, 0 }, "PeriodValue 132", 0, 0, 0, 0, "A 'b' \\x22" },
+    { "equal u \"Stand-up\"\n", 1, RR_SAID_EQUAL, "u", RR_A, { 0, 0, 0, 0, 0, 0, 0 }, "", 0, 0, 0, 0, "Stand-up" },
+    { "equal u zone \"zone\"\n", 1, RR_SAID_EQUAL, "u", RR_A, { 0, 0, 0, 0, 0, 0, 0 }, "", 1, 0, 0, 0, "zone" },
+    { "equal u \"a zone\"\n", 1, RR_SAID_EQUAL, "u", RR_A, { 0, 0, 0, 0, 0, 0, 0 }, "", 0, 0, 0, 0, "a zone" },
+    { "equal \"u\"\n", 1, RR_SAID_EQUAL, "\"u\"", RR_A, { 0, 0, 0, 0, 0, 0, 0 }, "", 0, 0, 0, 0, NULL },
+    { "equal \"u\" \"\"", 1, RR_SAID_EQUAL, "\"u\"", RR_A, { 0, 0, 0, 0, 0, 0, 0 }, "", 0, 0, 0, 0, "" },
+    { "equal line 12 \"12\"\n", 1, RR_SAID_EQUAL, "line 12", RR_A, { 0, 0, 0, 0, 0, 0, 0 }, "", 0, 0, 0, 0, "12" },
+    { "equal line \"12\"\n", 1, RR_SAID_EQUAL, "line", RR_A, { 0, 0, 0, 0, 0, 0, 0 }, "", 0, 0, 0, 0, "12" },
+    { "differs u no 2026-03-04T14:00:00 A \"Stand-up\"\n", 1, RR_SAID_DIFFERS, "u", RR_A, { 2026, 3, 4, 0, 14, 0, 0 }, "", 0, 0, 0, 0, "Stand-up" },
+    { "differs u no 2024-04-01T09:00:00-03:30 B zone \"Caf\303\251\"", 1, RR_SAID_DIFFERS, "u", RR_B, { 2024, 4, 1, 0, 9, 0, 0 }, "", 1, 1, -12600, 0, "Caf\303\251" },
+    { "differs u floating B \"x\"\n", 1, RR_SAID_DIFFERS, "u", RR_B, { 0, 0, 0, 0, 0, 0, 0 }, "", 0, 0, 0, 1, "x" },
+    { "only A line 3 \"A line 3\"\n", 1, RR_SAID_ONLY, "line 3", RR_A, { 0, 0, 0, 0, 0, 0, 0 }, "", 0, 0, 0, 0, "A line 3" },
+    { "refused u B UtcMoment 124 \"refused u B UtcMoment 124\"\n", 1, RR_SAID_REFUSED, "u", RR_B, { 0, 0, 0, 0, 0, 0, 0 }, "UtcMoment 124", 0, 0, 0, 0, "refused u B UtcMoment 124" },
+    { "alike u\n", 0, RR_SAID_EQUAL, "", RR_A, { 0, 0, 0, 0, 0, 0, 0 }, "", 0, 0, 0, 0, NULL },
+    { "equal u \"x\n", 0, RR_SAID_EQUAL, "", RR_A, { 0, 0, 0, 0, 0, 0, 0 }, "", 0, 0, 0, 0, NULL },
+    { "equal u \"\n", 0, RR_SAID_EQUAL, "", RR_A, { 0, 0, 0, 0, 0, 0, 0 }, "", 0, 0, 0, 0, NULL },
+    { "equal u \"x\" zone\n", 0, RR_SAID_EQUAL, "", RR_A, { 0, 0, 0, 0, 0, 0, 0 }, "", 0, 0, 0, 0, NULL },
+    { "refused u A NoStart 7 \"x\n", 0, RR_SAID_EQUAL, "", RR_A, { 0, 0, 0, 0, 0, 0, 0 }, "", 0, 0, 0, 0, NULL },
+    { "events 12 equal 7 differs 2 only-A 1 only-B 1 refused 0 zone 0 alike 1\n", 0, RR_SAID_EQUAL, "", RR_A, { 0, 0, 0, 0, 0, 0, 0 }, "", 0, 0, 0, 0, NULL },
+    { "", 0, RR_SAID_EQUAL, "", RR_A, { 0, 0, 0, 0, 0, 0, 0 }, "", 0, 0, 0, 0, NULL },
 };
 
 static int is_same(const struct rr_moment *a, const struct rr_moment *b)
@@ -100,6 +122,12 @@ static int is_text(const char *bytes, size_t length, const char *text)
     return length == strlen(text) && (length == 0 || memcmp(bytes, text, length) == 0);
 }
 
+/* Whether a line has this title, or none if there is none. */
+static int is_title(const struct rr_report_line *line, const char *title)
+{
+    return title ? line->title && is_text(line->title, line->title_length, title) : !line->title && line->title_length == 0;
+}
+
 /* Whether a line is read as its row says, and what follows it is left. */
 static int is_read(const struct report_row *row)
 {
@@ -111,7 +139,7 @@ static int is_read(const struct report_row *row)
     return !row->is_line || (line.said == row->said && is_text(line.key, line.key_length, row->key) && line.side == row->side &&
                              is_same(&line.moment, &row->moment) && is_text(line.refusal, line.refusal_length, row->refusal) &&
                              line.has_other_zone == row->has_other_zone && line.has_offset == row->has_offset &&
-                             line.offset == row->offset && line.is_floating == row->is_floating);
+                             line.offset == row->offset && line.is_floating == row->is_floating && is_title(&line, row->title));
 }
 
 int main(void)

@@ -49,7 +49,7 @@ from dataclasses import dataclass
 from typing import Any, Callable, Iterable, Iterator, Literal, overload
 
 from ._library import NO, NO_MEMORY, REFUSED, TOO_SMALL, USAGE, rr_answer, rr_calendars_answer, rr_clear_answer, version
-from ._report import Calendar, Counts, EventNumber, Key, More, Report, ReportLine, Shown, calendar_of, name_of, report_of, shown_of
+from ._report import Calendar, Counts, EventNumber, Key, More, Report, ReportLine, Shown, calendar_of, names_of, report_of, shown_of
 from ._series import AnySeries, Language, Moment, Operand, Series, Text, is_aware, moment_of, offset_text, operand, text_of
 
 __all__ = [
@@ -480,19 +480,20 @@ def infer(series: AnySeries) -> str:
 
 
 @overload
-def calendars(old: Calendar, new: Calendar, offset: datetime.timedelta | None = None, show: None = None, differences: bool = False) -> Report: ...
+def calendars(old: Calendar, new: Calendar, offset: datetime.timedelta | None = None, show: None = None, differences: bool = False, titles: bool = False) -> Report: ...
 @overload
-def calendars(old: Calendar, new: Calendar, offset: datetime.timedelta | None = None, *, show: Key, differences: bool = False) -> Shown: ...
+def calendars(old: Calendar, new: Calendar, offset: datetime.timedelta | None = None, *, show: Key, differences: bool = False, titles: bool = False) -> Shown: ...
 def calendars(
-    old: Calendar, new: Calendar, offset: datetime.timedelta | None = None, show: Key | None = None, differences: bool = False
+    old: Calendar, new: Calendar, offset: datetime.timedelta | None = None, show: Key | None = None, differences: bool = False, titles: bool = False
 ) -> Report | Shown:
     """What is said of two calendars, as docs/CALENDARS.md has it: each event is found again by its UID. Events are compared by their moments if
     the zones of both sides are defined in the two calendars; a file of further zones, as the program takes, is not for this call. Moments in UTC
     beside a local start are read by the zones of the calendar, and those that no zone turns by the offset, which says how far local time is ahead
     of UTC, also for events without a zone. With differences the lines of equal events are left out, but not those whose zones are not known.
-    With show only the events of that UID are asked for, and the months from the first difference of their local times on are painted; it is said
+    With titles each line has the title of its events. With show only the events of that UID are asked for, or, if neither calendar has it, those
+    of the one UID whose events have it as their title; the months from the first difference of their local times on are painted, and it is said
     how many differences more there are, and until when. A calendar that can't be read as a whole is Refused, and a UID that neither has is a
-    KeyError.
+    KeyError. Events that both calendars state in the same words, which can't be read, are alike, and no fault.
 
     >>> board = "BEGIN:VEVENT\\nUID:board\\nDTSTART;VALUE=DATE:20240105\\nRRULE:FREQ=MONTHLY\\nEND:VEVENT\\n"
     >>> lunch = "BEGIN:VEVENT\\nUID:lunch\\nDTSTART:20240105T123000\\nEND:VEVENT\\n"
@@ -502,26 +503,40 @@ def calendars(
     ('board', 'differs', 'A', datetime.date(2024, 2, 5))
     ('lunch', 'only', 'A', None)
     >>> said.counts
-    Counts(events=2, equal=0, differs=1, only_a=1, only_b=0, refused=0, other_zone=0)
+    Counts(events=2, equal=0, differs=1, only_a=1, only_b=0, refused=0, other_zone=0, alike=0)
     >>> bool(said), bool(calendars(board + lunch, lunch + board))
     (False, True)
     >>> calendars(board, lunch, show="lunch").line.side
     'B'
+    >>> party = "BEGIN:VEVENT\\nUID:7\\nSUMMARY:Summer party\\nDTSTART:20240701T170000\\nRRULE:FREQ=SOMETIMES\\nEND:VEVENT\\n"
+    >>> said = calendars(party, party, titles=True)
+    >>> said.lines[0].title, said.lines[0].said, said.lines[0].refusal, bool(said)
+    ('Summer party', 'alike', 'BadRule', True)
+    >>> calendars(party, lunch, show="Summer party").line.key
+    '7'
     """
     if rr_calendars_answer is None:
         raise NotImplementedError("the shared library is of an older release, and compares no calendars")
     a, b = calendar_of(old), calendar_of(new)
     words = ["a", "b"]
     words += [] if offset is None else ["--offset", offset_text(offset)]
-    words += [] if show is None else ["--show", name_of(show)]
     words += ["--differences"] if differences else []
-    status, out = _answer_by(rr_calendars_answer, words, a, b, _ROOM + len(a) + len(b))
-    if status >= USAGE:
-        raise ValueError(f"not within what rr takes: {' '.join(words)}")
-    text = out.decode()
-    if show is not None and text.startswith("unknown "):
+    words += ["--titles"] if titles else []
+    asked = [words] if show is None else [[*words, "--show", name] for name in names_of(show)]
+    texts = (_calendars_text(it, a, b) for it in asked)
+    text = next((it for it in texts if not it.startswith("unknown ")), None)
+    if text is None:
         raise KeyError(show)
     said = report_of(text) if show is None else shown_of(text)
     if said is None:
         raise _refused(text)
     return said
+
+
+def _calendars_text(words: list[str], a: bytes, b: bytes) -> str:
+    """What is printed of two calendars."""
+    assert rr_calendars_answer is not None
+    status, out = _answer_by(rr_calendars_answer, words, a, b, _ROOM + len(a) + len(b))
+    if status >= USAGE:
+        raise ValueError(f"not within what rr takes: {' '.join(words)}")
+    return out.decode()

@@ -1,6 +1,7 @@
 """python -m rr WORDS: the words, the answers and the exit statuses of the program rr, over the shared library."""
 from __future__ import annotations
 
+import os
 import re
 import sys
 
@@ -33,22 +34,31 @@ def _answer(words: list[str]) -> tuple[int, bytes]:
     return answer(words, texts[0], texts[-1])
 
 
-def main() -> int:
-    if sys.argv[1:] == ["--version"]:
-        print(f"rr {__version__}")
-        return 0
-    try:
-        status, said = _answer(sys.argv[1:])
-    except OutOfMemory:
-        print("rr: out of memory", file=sys.stderr)
-        return _NO_MEMORY
+def _put(said: bytes) -> bool:
+    """Whether all was written. If the reader of the output has gone nothing is said of it, as by the program."""
     try:
         sys.stdout.buffer.write(said)
         sys.stdout.flush()
+        return True
+    except BrokenPipeError:
+        pass
     except OSError as error:
         print(f"rr: the output could not be written: {error.strerror}", file=sys.stderr)
-        return _WRITE_FAULT
-    return status
+    # What is left in the buffer is written once more when the interpreter ends: into nothing, or that would fail too and be said.
+    os.dup2(os.open(os.devnull, os.O_WRONLY), sys.stdout.fileno())
+    return False
+
+
+def main() -> int:
+    if sys.argv[1:] == ["--version"]:
+        status, said = 0, f"rr {__version__}\n".encode()
+    else:
+        try:
+            status, said = _answer(sys.argv[1:])
+        except OutOfMemory:
+            print("rr: out of memory", file=sys.stderr)
+            return _NO_MEMORY
+    return status if _put(said) else _WRITE_FAULT
 
 
 if __name__ == "__main__":

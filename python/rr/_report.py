@@ -16,7 +16,7 @@ Calendar = Union[str, bytes, bytearray, memoryview, "os.PathLike[str]"]
 """The text or the bytes of a calendar, or the path of its file, which is read at each call."""
 Key = Union[str, int]
 """The UID of events; of an event without one the number of the line that begins it, or in a list of Microsoft Graph its EventNumber."""
-Said = Literal["equal", "differs", "only", "refused"]
+Said = Literal["equal", "differs", "only", "refused", "alike"]
 
 
 class EventNumber(int):
@@ -41,15 +41,18 @@ class ReportLine:
 
     key         the UID as the file has it, or the line or the EventNumber of an event without one
     said        'equal': both have the same occurrences, at the same moments; 'differs': they do not; 'only': one calendar alone has events of it;
-                'refused': they can't be compared
-    side        unless equal: 'A' is the old calendar, 'B' the new one. Whose occurrence it is, which has the events, or in which they are refused
+                'refused': they can't be compared; 'alike': they can't be compared, but both state them in the same words, so nothing of them
+                is lost: that is no fault
+    side        unless equal: 'A' is the old calendar, 'B' the new one. Whose occurrence it is, which has the events, or in which they are refused;
+                'A' if they are alike
     moment      if they differ: the first occurrence that only one of them has, as a date or a moment of the local clock of that side, which is aware
                 if the zones of both are known
-    refusal     if they are refused: the name. docs/REFUSALS.md and docs/CALENDARS.md say of each name what to do
-    place       if they are refused: the number of the line, of Graph that of the event, or of the rule if they are NotSynchronised
+    refusal     if they are refused or alike: the name. docs/REFUSALS.md and docs/CALENDARS.md say of each name what to do
+    place       if they are refused or alike: the number of the line, of Graph that of the event, or of the rule if they are NotSynchronised
     other_zone  of equal events: local times are equal, but their zones have other names, and not both are defined, so nobody can tell more; if they
                 differ: local times are equal for ever, and the zones alone differ
     floating    they differ since those of the side state neither a zone nor UTC, and the others do: there is no moment
+    title       if titles are asked for: the title of its first event in A, otherwise in B, empty if that has none; otherwise None
     """
 
     key: Key
@@ -60,11 +63,13 @@ class ReportLine:
     place: int | None = None
     other_zone: bool = False
     floating: bool = False
+    title: str | None = None
 
 
 @dataclass(frozen=True)
 class Counts:
-    """How many UIDs there are, and of how many each is said; other_zone counts those of equal whose zones are not known to be one."""
+    """How many UIDs there are, and of how many each is said; other_zone counts those of equal whose zones are not known to be one. Those that are alike
+    are not among the refused ones."""
 
     events: int
     equal: int
@@ -73,18 +78,19 @@ class Counts:
     only_b: int
     refused: int
     other_zone: int
+    alike: int = 0
 
 
 @dataclass(frozen=True)
 class Report:
-    """What is said of two calendars: a line for each UID, in the order of their bytes, and the counts. It is true in a condition if all are equal, and their
-    zones are known to be."""
+    """What is said of two calendars: a line for each UID, in the order of their bytes, and the counts. It is true in a condition if all are equal or alike, and
+    of none that is equal the zones are unknown: where the program has status 0."""
 
     lines: tuple[ReportLine, ...]
     counts: Counts
 
     def __bool__(self) -> bool:
-        return self.counts.equal == self.counts.events and not self.counts.other_zone
+        return self.counts.equal + self.counts.alike == self.counts.events and not self.counts.other_zone
 
 
 @dataclass(frozen=True)
@@ -104,15 +110,15 @@ class More:
 @dataclass(frozen=True)
 class Shown:
     """What is said of the events of one UID, and, if they differ, the months from the first difference on, as the program paints them, and how
-    many differences more there are; otherwise the picture is empty, and more is None. It is true in a condition if they are equal, and
-    their zones are known to be."""
+    many differences more there are; otherwise the picture is empty, and more is None. It is true in a condition if they are alike, or equal
+    and their zones are known to be."""
 
     line: ReportLine
     picture: str
     more: More | None = None
 
     def __bool__(self) -> bool:
-        return self.line.said == "equal" and not self.line.other_zone
+        return self.line.said in ("equal", "alike") and not self.line.other_zone
 
 
 def calendar_of(calendar: Calendar) -> bytes:
@@ -140,21 +146,47 @@ def name_of(key: Key) -> str:
     return "".join(chr(byte) if 0x20 < byte < 0x7F and byte != 0x5C else f"\\x{byte:02x}" for byte in key.encode("utf-8", "surrogateescape"))
 
 
-def _uid_of(printed: str) -> str:
-    r"""A UID by how it is printed. Bytes that are no text stand in it as the interpreter has them in names of files.
+# A character that is escaped in a title: all but the visible ones, with the quote and the backslash. The library prints titles so.
+_HIDDEN = re.compile(
+    "[^ !#-\\[\\]-~\u00a1-\u00ac\u00ae-\u02ff\u0370-\u0482\u048a-\u058f\u05d0-\u05ea\u0620-\u064a\u0900-\u0dff\u0e01-\u0e5b\u10a0-\u10ff\u1e00-\u1fff"
+    "\u2010-\u2027\u2030-\u205e\u20a0-\u20bf\u2100-\u2bff\u3001-\u303f\u3041-\u30ff\u3400-\u9fff\uac00-\ud7a3\uff01-\uff60\U0001f300-\U0001faff]"
+)
 
-    >>> _uid_of(r"caf\xc3\xa9\x20\x5c") == "caf\u00e9 \\"
+
+def names_of(key: Key) -> list[str]:
+    r"""The names by which events are asked for, one after the other: their key as it is printed, then the title as it is printed. The name of
+    an event without a UID is no title.
+
+    >>> print(names_of("a@b"), names_of(12), names_of("line 12"))
+    ['a@b'] ['line 12'] ['line\\x2012']
+    >>> names_of('The "new" caf\u00e9')[1] == 'The \\x22new\\x22 caf\u00e9'
+    True
+    """
+    name = name_of(key)
+    if isinstance(key, int) or re.fullmatch("(?:line|event) [0-9]+", key):
+        return [name]
+    title = _HIDDEN.sub(lambda it: "".join(f"\\x{byte:02x}" for byte in it.group().encode("utf-8", "surrogateescape")), key)
+    return [name] if title == name else [name, title]
+
+
+def _unescaped(printed: str) -> str:
+    r"""A UID or a title by how it is printed. Bytes that are no text stand in it as the interpreter has them in names of files.
+
+    >>> _unescaped(r"caf\xc3\xa9\x20\x5c") == "caf\u00e9 \\"
     True
     """
     return re.sub(rb"\\x([0-9a-f]{2})", lambda it: bytes([int(it.group(1), 16)]), printed.encode()).decode("utf-8", "surrogateescape")
 
 
 _KEY = r"(?:line (?P<line>[0-9]+)|event (?P<event>[0-9]+)|(?P<uid>\S+))"
+_REFUSAL = "(?P<refusal>[A-Za-z]+(?: [^ 0-9]\\S*)*) (?P<place>[0-9]+)"
+_TITLE = '(?: "(?P<title>[^"]*)")?'
 _FORMS: list[tuple[Said, str]] = [
     ("equal", f"equal {_KEY}(?P<zone> zone)?"),
     ("differs", f"differs {_KEY} (?:no (?P<moment>\\S+)|(?P<floating>floating)) (?P<side>[AB])(?P<zone> zone)?"),
     ("only", f"only (?P<side>[AB]) {_KEY}"),
-    ("refused", f"refused {_KEY} (?P<side>[AB]) (?P<refusal>[A-Za-z]+(?: [^ 0-9]\\S*)*) (?P<place>[0-9]+)"),
+    ("refused", f"refused {_KEY} (?P<side>[AB]) {_REFUSAL}"),
+    ("alike", f"alike {_KEY} (?P<side>[AB]) {_REFUSAL}"),
 ]
 
 
@@ -162,26 +194,30 @@ def line_of(text: str) -> ReportLine | None:
     """A line of a report, or None if it is none of a UID.
 
     >>> line_of("differs oncall@team.example no 2024-06-28 A zone")
-    ReportLine(key='oncall@team.example', said='differs', side='A', moment=datetime.date(2024, 6, 28), refusal=None, place=None, other_zone=True, floating=False)
+    ReportLine(key='oncall@team.example', said='differs', side='A', moment=datetime.date(2024, 6, 28), refusal=None, place=None, other_zone=True, floating=False, title=None)
     >>> line_of("differs u no 2024-04-01T09:00:00+02:00 A").moment.isoformat(), line_of("differs u floating B").floating
     ('2024-04-01T09:00:00+02:00', True)
     >>> line_of("only B line 12").key, line_of("only B event 12").key
     (12, EventNumber(12))
     >>> line_of("refused u B BadMember recurrence 3").refusal
     'BadMember recurrence'
+    >>> line_of(r'alike u A NotSynchronised 1 "The \\x22new\\x22 caf\u00e9"')
+    ReportLine(key='u', said='alike', side='A', moment=None, refusal='NotSynchronised', place=1, other_zone=False, floating=False, title='The "new" caf\u00e9')
+    >>> line_of('equal "u"').title, line_of('equal "u" zone ""').title, line_of('only A line 12 "12"').title
+    (None, '', '12')
     >>> line_of("refused A BadLine 3")
     """
     for said, form in _FORMS:
-        it = re.fullmatch(form, text)
+        it = re.fullmatch(form + _TITLE, text)
         if it is not None:
             return _line(said, it.groupdict())
     return None
 
 
 def _line(said: Said, it: dict[str, str | None]) -> ReportLine:
-    line, event, uid, side, moment, place = (it.get(name) for name in ("line", "event", "uid", "side", "moment", "place"))
+    line, event, uid, side, moment, place, title = (it.get(name) for name in ("line", "event", "uid", "side", "moment", "place", "title"))
     return ReportLine(
-        _uid_of(uid) if uid is not None else EventNumber(event) if event is not None else int(line or 0),
+        _unescaped(uid) if uid is not None else EventNumber(event) if event is not None else int(line or 0),
         said,
         None if side is None else "A" if side == "A" else "B",
         None if moment is None else told_moment(moment),
@@ -189,6 +225,7 @@ def _line(said: Said, it: dict[str, str | None]) -> ReportLine:
         None if place is None else int(place),
         it.get("zone") is not None,
         it.get("floating") is not None,
+        None if title is None else _unescaped(title),
     )
 
 
@@ -213,14 +250,17 @@ def report_of(text: str) -> Report | None:
     """A report by what is printed, or None if it is none, but the refusal of a calendar.
 
     >>> report_of("only A u\\nevents 1 equal 0 differs 0 only-A 1 only-B 0 refused 0\\n").counts
-    Counts(events=1, equal=0, differs=0, only_a=1, only_b=0, refused=0, other_zone=0)
+    Counts(events=1, equal=0, differs=0, only_a=1, only_b=0, refused=0, other_zone=0, alike=0)
+    >>> both = report_of("equal u\\nalike v A PeriodValue 9\\nevents 2 equal 1 differs 0 only-A 0 only-B 0 refused 0 zone 0 alike 1\\n")
+    >>> both.counts.alike, both.counts.refused, bool(both)
+    (1, 0, True)
     """
     *lines, last = text.splitlines()
     if not last.startswith("events "):
         return None
     words = last.split()
     number = {name: int(count) for name, count in zip(words[::2], words[1::2])}
-    counts = Counts(*(number.get(name, 0) for name in ("events", "equal", "differs", "only-A", "only-B", "refused", "zone")))
+    counts = Counts(*(number.get(name, 0) for name in ("events", "equal", "differs", "only-A", "only-B", "refused", "zone", "alike")))
     return Report(tuple(it for it in map(line_of, lines) if it is not None), counts)
 
 
