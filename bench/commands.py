@@ -392,7 +392,12 @@ def answers(function):
     return lines
 
 
+def calendars_release(table):
+    return constant("VERSION", f"rr-calendars {(TOP / VERSION).read_text().strip()}\n")[:-1]
+
+
 PLACES = {
+    "crates/rr_compare/src/release.rt": calendars_release,
     "crates/rr_answer/src/pages.rt": code_pages, "crates/rr_answer/specs/Pages.antt": defined_pages,
     "crates/rr_answer/proofs/pages/help_of/Answers.antt": answers("help_of"),
     "crates/rr_answer/proofs/pages/explanation_of/Answers.antt": answers("explanation_of"),
@@ -424,7 +429,8 @@ def stale_pages(table, writes):
 def other_usage_lines(table):
     """The files whose usage line is another one, or that have none."""
     for name in USAGE_LINES:
-        found = re.findall(r'usage: rr [^"\\~\n]*', (TOP / name).read_text())
+        text = re.sub(r'"\s*\+\+ codes "', "", (TOP / name).read_text())
+        found = re.findall(r'usage: rr [^"\\~\n]*', text)
         if set(found) != {usage_line(table)}:
             yield name
 

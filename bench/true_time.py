@@ -12,10 +12,10 @@ import bisect
 import datetime as dates
 import functools
 import random
+import resource
 import subprocess
 import sys
 import tempfile
-import time
 import zoneinfo
 from dataclasses import dataclass, field
 from pathlib import Path
@@ -249,14 +249,15 @@ def calendar(events, zones):
 
 
 def said(program, old, new):
-    """What the program says of two texts, and how long it takes."""
+    """What the program says of two texts, and how many seconds of a processor it takes, so that a busy machine changes little."""
     with tempfile.TemporaryDirectory() as folder:
         paths = [Path(folder, name) for name in ("old.ics", "new.ics")]
         for path, text in zip(paths, (old, new)):
             path.write_bytes(text.encode())
-        begun = time.monotonic()
+        begun = resource.getrusage(resource.RUSAGE_CHILDREN)
         run = subprocess.run([program, *map(str, paths)], stdout=subprocess.PIPE, check=False)
-        return run.stdout.decode().splitlines(), time.monotonic() - begun
+        ended = resource.getrusage(resource.RUSAGE_CHILDREN)
+        return run.stdout.decode().splitlines(), ended.ru_utime + ended.ru_stime - begun.ru_utime - begun.ru_stime
 
 
 def try_pairs(program):
