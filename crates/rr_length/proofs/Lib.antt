@@ -1,0 +1,4 @@
+mod AnswerLemmas
+mod OneLemmas
+mod OrderLemmas
+mod WalkLemmas

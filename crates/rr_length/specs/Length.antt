@@ -1,5 +1,5 @@
 -- How long an occurrence is: days of the calendar, and exact seconds after them (RFC 5545, sections 3.3.6, 3.6.1, 3.8.2.2, 3.8.2.5, 3.8.5.3).
-use Rattle.std.specs.Prelude.{ℕ, ◌==◌, nat_lt, Bool, true, false, ◌&&◌, ◌||◌, if◌then◌else◌, ℤ, ◌-ℤ◌, int_le, nat_abs, List, [], ◌++◌, codes, Option, None, Some}
+use Rattle.std.specs.Prelude.{ℕ, ◌==◌, nat_lt, Bool, true, false, ◌&&◌, ◌||◌, if◌then◌else◌, ◌-ℤ◌, int_le, nat_abs, List, [], ◌++◌, codes, Option, None, Some}
 use Rattle.std.specs.Fmt.{decimal}
 use Rattle.rr_model.specs.Moment.{is_same_kind}
 use Rattle.rr_model.specs.declared.kind.Kind.{Kind}

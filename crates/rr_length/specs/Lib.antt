@@ -1,2 +1,5 @@
 pub mod Length
 pub mod Duration
+pub mod Event
+pub mod Lengths
+pub mod Walk
