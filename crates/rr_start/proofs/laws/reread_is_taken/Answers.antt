@@ -1,0 +1,5 @@
+use Rattle.rr_start.proofs.RereadLemmas.{reread_is_taken as law}
+use Rattle.rr_start.proofs.laws.reread_is_taken.Goals as goal
+
+pub returns : goal.returns
+returns c = law
