@@ -4,8 +4,10 @@ ghost use Rattle.rr_seam.specs.Stated.{AnswersStated, Stated};
 ghost use Rattle.rr_seam.specs.declared.key.Key.{Key as KeyValue};
 
 use crate::key::Key;
+use crate::marks::Marks;
 use crate::refusal::KeyFault;
 use crate::words::KeyWords;
+use rr_length::KeyLengths;
 use rr_model::{Bytes, NoMemory, Series};
 use std::alloc::Global;
 
@@ -59,6 +61,10 @@ pub struct KeySeries {
     pub zones: Vec<Bytes>,
     /// The place that a refusal by a limit is reported at.
     pub place: u64,
+    /// How long its occurrences are; `None` if that can't be told of one of its events.
+    pub lengths: Option<KeyLengths>,
+    /// How it was read if it is at odds with RFC 5545.
+    pub marks: Marks,
 }
 
 /// A file of events, whatever its language. Its events are told apart by their index, from 0.
