@@ -1,0 +1,5 @@
+use Rattle.rr_lenient.proofs.LenientLawProofs.{lenient_is_taken as law}
+use Rattle.rr_lenient.proofs.lenient_laws.lenient_is_taken.Goals as goal
+
+pub returns : goal.returns
+returns c = law c.reread_is_taken.ensures
