@@ -1,6 +1,7 @@
 mod ItemLemmas
 mod NameLemmas
 mod InstanceLemmas
+mod LengthLemmas
 mod TurningLemmas
 mod KnownLemmas
 mod StatedLemmas

@@ -7,9 +7,11 @@ use Rattle.serde_json.specs.Data.{Data, null, boolean, number, string, array, ob
 use Rattle.serde_json.specs.Find.{as_array}
 use Rattle.serde_json.specs.Read.{read}
 use Rattle.rr_model.specs.Graph.Members.{member_of, text_in}
-use Rattle.rr_model.specs.Graph.Reading.{graph_moment, is_all_day, is_named_utc, is_true}
+use Rattle.rr_model.specs.Graph.Reading.{by_pattern, graph_moment, is_all_day, is_named_utc, is_true}
 use Rattle.rr_model.specs.Text.ExtendedMoments.{extended_date_alone}
 use Rattle.rr_model.specs.Text.Lines.{without_mark}
+use Rattle.rr_model.specs.declared.graph.GraphEvent.{GraphEvent}
+use Rattle.rr_model.specs.declared.refusal.Refusal.{Refusal}
 use Rattle.rr_model.specs.declared.stamp.Stamp.{Stamp}
 use Rattle.rr_seam.specs.declared.file.FileRefusal.{FileRefusal}
 use Rattle.rr_seam.specs.declared.file.FileRefusal.TheVariants.{TooLong, BadJson, MorePages, NoEvents, BadEvent}
@@ -122,6 +124,10 @@ title_of event = unwrap_or (text_in (codes "subject") event) []
 -- an event has a recurrence
 abbrev pub repeats : Data → Bool
 repeats event = is_some (member_of (codes "recurrence") event)
+
+-- what an event states of itself (Microsoft Graph, event: start, isAllDay, recurrence), as an event alone is read
+abbrev pub read_event : Option ℤ → Data → Result GraphEvent Refusal
+read_event offset event = by_pattern offset (member_of (codes "pattern") event) event
 
 -- ---- what it is found again by (Microsoft Graph, event: iCalUId, seriesMasterId, id)
 

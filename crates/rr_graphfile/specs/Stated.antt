@@ -5,8 +5,8 @@ use Rattle.std.specs.Option.{is_some}
 use Rattle.serde_json.specs.Data.{Data}
 use Rattle.serde_json.specs.Find.{as_str}
 use Rattle.rr_model.specs.Graph.Counterpart.{series_of_graph}
-use Rattle.rr_model.specs.Graph.Members.{member_of, text_in}
-use Rattle.rr_model.specs.Graph.Reading.{by_pattern, graph_moment, is_all_day, turned_start}
+use Rattle.rr_model.specs.Graph.Members.{text_in}
+use Rattle.rr_model.specs.Graph.Reading.{graph_moment, is_all_day, turned_start}
 use Rattle.rr_model.specs.Moment.{day_part, moment_at, second_part}
 use Rattle.rr_model.specs.declared.graph.GraphEvent.{GraphEvent}
 use Rattle.rr_model.specs.declared.graph.Repeat.{Repeat}
@@ -14,10 +14,10 @@ use Rattle.rr_model.specs.declared.graph.Repeat.TheVariants as repeat
 use Rattle.rr_model.specs.declared.kind.Kind.{Kind}
 use Rattle.rr_model.specs.declared.kind.Kind.TheVariants.{Days, Moments}
 use Rattle.rr_model.specs.declared.refusal.Member.TheVariants as of
-use Rattle.rr_model.specs.declared.refusal.Refusal.{Refusal}
 use Rattle.rr_model.specs.declared.refusal.Refusal.TheVariants.{BadMember, MixedKinds, NoStart, UtcMoment}
 use Rattle.rr_model.specs.declared.rule.Series.{Series}
 use Rattle.rr_model.specs.declared.stamp.Stamp.{Stamp}
+use Rattle.rr_seam.specs.Marks.{no_marks}
 use Rattle.rr_seam.specs.Stated.{Calendar, Stated}
 use Rattle.rr_seam.specs.Words.{Words}
 use Rattle.rr_seam.specs.declared.words.Language.TheVariants.{Graph}
@@ -25,7 +25,9 @@ use Rattle.rr_seam.specs.Steps.{◌>=>◌, at_event, key_in_turn}
 use Rattle.rr_seam.specs.declared.refusal.KeyRefusal.{KeyRefusal}
 use Rattle.rr_seam.specs.declared.refusal.KeyRefusal.TheVariants as refusal
 use Rattle.rr_moved.specs.Moved.{Shifts, edited_moved, no_shifts, with_moment, with_start_at}
-use Rattle.rr_graphfile.specs.Items.{array_in, elements_or_none, instance_day, is_cancelled, keys_in, range_zone, repeats, title_of, type_of, zone_named}
+use Rattle.rr_graphfile.specs.Items.{array_in, elements_or_none, instance_day, is_cancelled, keys_in, range_zone, read_event, repeats}
+use Rattle.rr_graphfile.specs.Items.{title_of, type_of, zone_named}
+use Rattle.rr_graphfile.specs.Lengths.{lengths_of}
 use Rattle.rr_graphfile.specs.Turning.{Meaning, Turning, offset_in, start_offset, turned_zone, turning_of}
 use Rattle.rr_graphfile.specs.declared.item.EventType.{EventType}
 use Rattle.rr_graphfile.specs.declared.item.EventType.TheVariants.{Single, Master, Occurrence, Exception}
@@ -147,10 +149,6 @@ abbrev pub start_by : ℕ → Kind → GraphEvent → Repeat → Result ℤ KeyR
 start_by place kind event (repeat.Pattern pattern range) = Err (refusal.TwoSeries place)
 start_by place kind event repeat.Once = if is_same_kind event.kind kind then Ok event.start else Err (refusal.Event (MixedKinds place) place)
 
--- what an event states of itself (Microsoft Graph, event: start, isAllDay, recurrence), as an event alone is read
-abbrev pub read_event : Option ℤ → Data → Result GraphEvent Refusal
-read_event offset event = by_pattern offset (member_of (codes "pattern") event) event
-
 -- what an event states of itself, at this place
 abbrev pub event_at : Turning → ℕ → Data → Result GraphEvent KeyRefusal
 event_at turning place event = at_event place (read_event (start_offset turning event) event)
@@ -235,22 +233,24 @@ zones_of turning event =
 abbrev pub no_words : Words
 no_words = record { language = Graph; events = [] }
 
--- what a series states, which a limit refuses at its own place
+-- what a series states, which a limit refuses at its own place; beside its moments stand no dates
 abbrev pub series_turned : Turning → Placed → Stated
 series_turned turning placed = record {
   series = series_of turning placed;
   place = placed.place;
   zones = zones_of turning placed.event;
   words = no_words;
+  lengths = lengths_of turning placed.event;
+  marks = no_marks;
 }
 
 -- what a series states, its moments of UTC turned by what the name of its zone means
 abbrev pub series_stated : Meaning → Option ℤ → Placed → Stated
 series_stated means offset placed = series_turned (turning_of means offset placed.event) placed
 
--- what is refused states no series
+-- what is refused states no series, and no length
 abbrev pub refused_stated : KeyRefusal → Stated
-refused_stated r = record { series = Err r; place = 0; zones = []; words = no_words }
+refused_stated r = record { series = Err r; place = 0; zones = []; words = no_words; lengths = None; marks = no_marks }
 
 -- what the events of a key state: an instance whose series is not there is refused, and none has no start
 abbrev pub stated_by : Meaning → Option ℤ → Option Placed → Option ℕ → Stated

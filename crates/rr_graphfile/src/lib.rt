@@ -6,6 +6,7 @@ mod gather;
 mod instances;
 mod item;
 mod known;
+mod lengths;
 mod names;
 mod series;
 mod start;

@@ -14,12 +14,13 @@ use crate::gather::{Gathered, Placed, gather};
 use crate::instances::{Beside, event_at, event_shifts};
 use crate::item::{EventType, is_cancelled, repeats, type_of};
 use crate::known::ZoneMap;
+use crate::lengths::lengths_of;
 use crate::turning::{Turning, turning_of};
 use crate::zones::zones_of;
 use rr_graph::to_series;
 use rr_model::{GraphEvent, Member, Refusal, Series};
 use rr_moved::moved;
-use rr_seam::{KeyFault, KeyRefusal, KeySeries};
+use rr_seam::{KeyFault, KeyRefusal, KeySeries, Marks};
 use serde_json::Value;
 use std::alloc::Global;
 
@@ -86,6 +87,8 @@ fn series_turned(alloc: Global, turning: Turning, placed: Placed) -> Result<KeyS
         series: series_of(alloc, turning, placed)?,
         zones: zones_of(alloc, turning, placed.event)?,
         place: placed.place,
+        lengths: lengths_of(alloc, turning, placed.event)?,
+        marks: Marks::none(),
     })
 }
 
@@ -128,7 +131,7 @@ fn gathered_stated(
 /// list. Of the series `BadMember` of `recurrence` if it is a series master without one, what `rr_graph::read` refuses of an
 /// event, and `NotExpanded` without one of its two lists; then instance by instance, first the cancelled ones, `BadInstance`
 /// or `UtcMoment` of its day, `TwoInstances`, and, unless it is cancelled, what is refused of its start, `TwoSeries` for a
-/// pattern of its own and `MixedKinds`; then `TooManyParts`.
+/// pattern of its own and `MixedKinds`; then `TooManyParts`. Nothing is refused for its length.
 #[tactic(auto, unfolding(crate::specs::Stated::stated_in))]
 pub(crate) fn key_series(
     alloc: Global,

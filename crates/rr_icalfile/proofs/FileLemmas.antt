@@ -95,20 +95,20 @@ fault_found bytes text fault.NoMemory is e some found = tt
 
 -- ---- the calendar of a file
 
-pub calendar_read : (offset : Option ℤ) (bytes : List ℕ) (pieces : List Piece) → file_events bytes ≡ Ok (map lines_in pieces)
-    → IsCalendar (calendar offset bytes) (calendar_of offset (map lines_in pieces))
-calendar_read offset bytes pieces h = record {
-  of_file = calendar_of offset (map lines_in pieces);
-  reads = ap (calendar_by_events offset) h;
+pub calendar_read : (offset : Option ℤ) (lenient : Bool) (bytes : List ℕ) (pieces : List Piece) → file_events bytes ≡ Ok (map lines_in pieces)
+    → IsCalendar (calendar offset lenient bytes) (calendar_of offset lenient (map lines_in pieces))
+calendar_read offset lenient bytes pieces h = record {
+  of_file = calendar_of offset lenient (map lines_in pieces);
+  reads = ap (calendar_by_events offset lenient) h;
   keys = refl;
   stated = λ indexes. refl;
   titles = λ index. refl;
 }
 
-pub calendar_refused : (offset : Option ℤ) (bytes : List ℕ) (f : FileFault) → AnswersFile bytes (Err f)
-    → AnswersCalendar calendar_in (calendar offset bytes) (Err f)
-calendar_refused offset bytes (file.Refused r) h = ap (calendar_by_events offset) h
-calendar_refused offset bytes file.NoMemory h = tt
+pub calendar_refused : (offset : Option ℤ) (lenient : Bool) (bytes : List ℕ) (f : FileFault) → AnswersFile bytes (Err f)
+    → AnswersCalendar calendar_in (calendar offset lenient bytes) (Err f)
+calendar_refused offset lenient bytes (file.Refused r) h = ap (calendar_by_events offset lenient) h
+calendar_refused offset lenient bytes file.NoMemory h = tt
 
 -- the key of the event of an index
 pub key-there : (pieces : List Piece) (index : ℕ) (d : Piece) → index < length pieces

@@ -1,18 +1,24 @@
 -- Empty lines say nothing of an event.
 use Rattle.std.proofs.Common.{◌≡◌, ℕ, Bool, true, false, cond, not, ◌&&◌, if◌then◌else◌, List, [], ◌∷◌, ◌++◌, Option, None, Some, codes, Result, Ok, Err, refl, sym, ap, ◌∙◌}
-use Rattle.std.specs.Prelude.{option_and_then, option_map, option_to_list}
+use Rattle.std.specs.Prelude.{◌==◌, length, option_and_then, option_map, option_to_list}
 use Rattle.std.specs.List.{filter, flat_map}
 use Rattle.std.specs.Option.{is_some}
 use Rattle.std.specs.Str.{str_eq_ignore_ascii_case}
+use Rattle.std.proofs.lemmas.List.Sums.{length-filter}
 use Rattle.rr_model.specs.Rule.Validity.{is_absent}
 use Rattle.rr_model.specs.Text.Event.{Components, Left, is_in_event, left_by, no_components, scan_from, scan_of}
 use Rattle.rr_model.specs.Text.UsedLines.{is_named, line_kind, value_of_line}
 use Rattle.rr_model.specs.declared.line.Line.{Line}
 use Rattle.rr_model.specs.declared.refusal.Refusal.{Refusal}
+use Rattle.rr_model.specs.declared.stamp.Stamp.{Stamp}
 use Rattle.rr_model.specs.declared.used.Scan.{Scan}
 use Rattle.rr_events.specs.Cutting.{full_lines, has_text}
 use Rattle.rr_ical.specs.Components.{open_after}
 use Rattle.rr_events.specs.Own.{first_named, first_value, own_line, own_lines, value_or_empty}
+use Rattle.rr_length.specs.Duration.{duration_of}
+use Rattle.rr_length.specs.Event.{count_named, end_length, event_length, stamp_on}
+use Rattle.rr_length.specs.Length.{unstated}
+use Rattle.rr_length.specs.declared.length.Length.{Length}
 use Rattle.rr_icalfile.specs.Event.{event_by, event_of, is_cancelled, is_component_line, is_unread, recurrence_of, recurrence_on, used_in}
 use Rattle.rr_icalfile.specs.Keys.{first_line}
 use Rattle.rr_icalfile.specs.Taken.{series_words, series_words_of}
@@ -126,22 +132,21 @@ zones-less (line ∷ own) = zones-by line own (zones-less own) (has_text line) r
 
 -- ---- the lines that are read
 
-components_by : (line : Line) (lines : List Line) → filter is_component_line (filter has_text lines) ≡ filter is_component_line lines → (b : Bool)
-    → has_text line ≡ b
-    → filter is_component_line (cond b (line ∷ filter has_text lines) (filter has_text lines)) ≡ filter is_component_line (line ∷ lines)
-components_by line lines more true h = ap (λ (ls : List Line). cond (is_component_line line) (line ∷ ls) ls) more
-components_by line lines more false h =
-    more
-    ∙ ap (λ (c : Bool). cond c (line ∷ filter is_component_line lines) (filter is_component_line lines))
-    (sym (ap is_component_line (is_empty line h) ∙ empty-component line.number))
+-- an empty line is none that passes a test
+module _ (test : Line → Bool) (none : (number : ℕ) → test (empty number) ≡ false) where
+  filter-by : (line : Line) (lines : List Line) → filter test (filter has_text lines) ≡ filter test lines → (b : Bool) → has_text line ≡ b
+      → filter test (cond b (line ∷ filter has_text lines) (filter has_text lines)) ≡ filter test (line ∷ lines)
+  filter-by line lines more true h = ap (λ (ls : List Line). cond (test line) (line ∷ ls) ls) more
+  filter-by line lines more false h =
+      more ∙ ap (λ (b : Bool). cond b (line ∷ filter test lines) (filter test lines)) (sym (ap test (is_empty line h) ∙ none line.number))
 
-components_less : (lines : List Line) → filter is_component_line (filter has_text lines) ≡ filter is_component_line lines
-components_less [] = refl
-components_less (line ∷ lines) = components_by line lines (components_less lines) (has_text line) refl
+  filter-less : (lines : List Line) → filter test (filter has_text lines) ≡ filter test lines
+  filter-less [] = refl
+  filter-less (line ∷ lines) = filter-by line lines (filter-less lines) (has_text line) refl
 
 components_full : (lines : List Line) → filter is_component_line (full_lines lines) ≡ filter is_component_line lines
 components_full [] = refl
-components_full (line ∷ lines) = ap (λ (ls : List Line). cond (is_component_line line) (line ∷ ls) ls) (components_less lines)
+components_full (line ∷ lines) = ap (λ (ls : List Line). cond (is_component_line line) (line ∷ ls) ls) (filter-less is_component_line empty-component lines)
 
 -- a line that is kept, before lines some of which are
 scan_kept : (line : Line) (components : Components) (less lines : List Line)
@@ -204,10 +209,41 @@ event_zones-less gone own =
 unread-less : (own : List Line) → is_unread (filter has_text own) ≡ is_unread own
 unread-less own = λ i. is_some (recurrence-less own i) && cancelled-less own i
 
+-- how many lines have a name, none of which is empty
+count-less : (word : List ℕ) → is_named [] word ≡ false → (own : List Line) → count_named word (filter has_text own) ≡ count_named word own
+count-less word some own =
+    let has_name = λ (line : Line). is_named line.text word in
+    sym (length-filter has_name (filter has_text own)) ∙ ap length (filter-less has_name (λ number. some) own) ∙ length-filter has_name own
+
+-- a length by what the lines of an end and of a duration state
+abbrev length_as : ℕ → ℕ → Option Line → Option Line → Line → Stamp → Option Length
+length_as ends durations end duration line start =
+    if (ends == 0) && (durations == 0) then Some (unstated start.kind)
+    else (if (ends == 1) && (durations == 0) then option_and_then (λ (last : Line). end_length line last) end
+    else (if (ends == 0) && (durations == 1)
+    then duration_of (value_or_empty (option_and_then (λ (l : Line). value_of_line l.text) duration))
+    else None))
+
+length-less : (own : List Line) → event_length (filter has_text own) ≡ event_length own
+length-less own =
+    let start = first-less (codes "DTSTART") refl own in
+    let end = first-less (codes "DTEND") refl own in
+    let duration = first-less (codes "DURATION") refl own in
+    let ends = count-less (codes "DTEND") refl own in
+    let durations = count-less (codes "DURATION") refl own in
+    λ i. option_and_then (λ (line : Line). option_and_then (length_as (ends i) (durations i) (end i) (duration i) line) (stamp_on line)) (start i)
+
 event-less : (first : ℕ) (scan : Scan) (own : List Line) → event_by first scan (filter has_text own) ≡ event_by first scan own
 event-less first scan own =
     let zones = ap (λ (b : Bool). event_zones b (filter has_text own)) (cancelled-less own) ∙ event_zones-less (is_cancelled own) own in
-    λ i. record { first = first; scan = scan; recurrence = recurrence-less own i; is_cancelled = cancelled-less own i; zones = zones i }
+    λ i. record {
+      first = first;
+      scan = scan;
+      recurrence = recurrence-less own i;
+      is_cancelled = cancelled-less own i;
+      zones = zones i;
+      length = length-less own i;
+    }
 
 pub event_full : (lines : List Line) → event_of (full_lines lines) ≡ event_of lines
 event_full lines =

@@ -2,6 +2,9 @@ mod FullLemmas
 mod KeyLemmas
 mod EditStepLemmas
 mod EditedLemmas
+mod DayLemmas
+mod OneTimeLemmas
+mod TimeTextLemmas
 mod OccursLemmas
 mod FileLemmas
 mod TakenLemmas

@@ -1,5 +1,6 @@
 -- What occurs in the events of a key.
-use Rattle.std.proofs.Common.{◌≡◌, List, ℤ, Option, None, Some, Ok}
+use Rattle.std.proofs.Common.{◌≡◌, Bool, true, List, ℤ, Option, None, Some, Result, Ok, Err, refl, sym, subst, ap, ◌∙◌}
+use Rattle.std.proofs.lemmas.Bool.{false≢true}
 use Rattle.rr_model.specs.Series.Occurrences.{Occurs}
 use Rattle.rr_model.specs.Text.Calendars.{calendar_scan}
 use Rattle.rr_model.specs.declared.rule.Series.{Series}
@@ -7,10 +8,14 @@ use Rattle.rr_rrule.proofs.BesideLemmas.{scan-valid}
 use Rattle.rr_seam.specs.Steps.{at_event, key_in_turn}
 use Rattle.rr_moved.proofs.KeyStepLemmas.{then_ok, was_ok}
 use Rattle.rr_moved.proofs.OccursLemmas.{moved_occurs, starts_alone}
-use Rattle.rr_icalfile.specs.Edited.{common_start, edited_alone, edited_by, edited_with_series, first_number, key_events, no_names}
+use Rattle.rr_seam.specs.declared.refusal.KeyRefusal.{KeyRefusal}
+use Rattle.rr_icalfile.specs.Days.{reading_of, with_times}
+use Rattle.rr_icalfile.specs.Edited.{KeyEvents, common_start, edited_alone, edited_by, edited_with_series, first_number, key_events, no_names}
 use Rattle.rr_icalfile.specs.Edited.{shifts_of, stamp_on, start_line, start_of, starts_of, with_name}
-use Rattle.rr_icalfile.specs.Instances.{EventsOccur, IsOfEvents, IsOfSeries, IsOfStarts}
+use Rattle.rr_icalfile.specs.Instances.{AreRefused, EventsOccur, IsOfEvents, IsOfSeries, IsOfStarts, events_read}
+use Rattle.rr_icalfile.specs.declared.day.Reading.{Reading}
 use Rattle.rr_icalfile.specs.declared.event.Event.{Event}
+use Rattle.rr_icalfile.proofs.DayLemmas.{IsRead, read_so}
 
 -- ---- a series with its instances
 
@@ -49,7 +54,43 @@ module _ (offset : Option ℤ) where
   of_events None instances edited h = of_starts instances edited h
   of_events (Some event) instances edited h = of_series event instances edited h
 
+-- ---- what is read of the events
+
+module _ (offset : Option ℤ) (lenient : Bool) (all : KeyEvents) (reading : Reading) (h : reading_of offset lenient all ≡ Ok reading) where
+  was_read : IsRead offset all lenient (edited_by offset all.series all.instances) reading
+  was_read = read_so offset all lenient (edited_by offset all.series all.instances) reading h
+
+  -- what occurs in the events that a reading is of
+  abbrev IsOf : Bool → Type 0
+  IsOf day = IsOfEvents offset (events_read day all).series (events_read day all).instances (Occurs reading.series)
+
+  of_reading : IsOf reading.day
+  of_reading = by (edited_by offset all.series all.instances) refl
+    where
+      by : (strict : Result Series KeyRefusal) → edited_by offset all.series all.instances ≡ strict → IsOf reading.day
+      by (Ok series) is =
+          let asked = was_read.as_asked series is in
+          subst IsOf (sym asked.0) (of_events offset all.series all.instances reading.series (is ∙ ap Ok (sym asked.1)))
+      by (Err r) is =
+          let days = (was_read.by_days r is).1 in
+          subst IsOf (sym days.day) (of_events offset (with_times all).series (with_times all).instances reading.series days.series)
+
+  day_said : reading.day ≡ true → (lenient ≡ true) × AreRefused offset all
+  day_said day = by (edited_by offset all.series all.instances) refl
+    where
+      by : (strict : Result Series KeyRefusal) → edited_by offset all.series all.instances ≡ strict → (lenient ≡ true) × AreRefused offset all
+      by (Ok series) is = absurd (false≢true (sym (was_read.as_asked series is).0 ∙ day))
+      by (Err r) is = ((was_read.by_days r is).0, record { refusal = r; is = is })
+
 pub events_occur : EventsOccur
-events_occur offset events edited h =
-    let all = then_ok (key_events events) _ edited h in
-    record { all = all.0; gathered = all.1; occurs = of_events offset all.0.series all.0.instances edited all.2 }
+events_occur offset lenient events reading h =
+    let all = then_ok (key_events events) (reading_of offset lenient) reading h in
+    record {
+      all = all.0;
+      gathered = all.1;
+      occurs = of_reading offset lenient all.0 reading all.2;
+      day = (
+        day_said offset lenient all.0 reading all.2,
+        λ refused. ((was_read offset lenient all.0 reading all.2).by_days refused.1.refusal refused.1.is).1.day,
+      );
+    }

@@ -1,14 +1,19 @@
 -- The calendar that an iCalendar text is (RFC 5545, sections 3.4 and 3.6.1).
-use Rattle.std.specs.Prelude.{ℕ, ℤ, List, [], ◌∷◌, ◌++◌, map, flat_map, slice_get, Option, None, Some, option_map, option_to_list, unwrap_or, Result, Ok, Err}
+use Rattle.std.specs.Prelude.{ℕ, Bool, false, ℤ, List, [], ◌∷◌, ◌++◌, map, flat_map, slice_get}
+use Rattle.std.specs.Prelude.{Option, None, Some, option_map, option_to_list, unwrap_or, Result, Ok, Err}
+use Rattle.rr_length.specs.Lengths.{Lengths}
 use Rattle.rr_model.specs.declared.line.Line.{Line}
 use Rattle.rr_seam.specs.Stated.{Calendar, Stated, calendar_by}
 use Rattle.rr_seam.specs.Words.{Words}
 use Rattle.rr_seam.specs.declared.file.FileRefusal.{FileRefusal}
+use Rattle.rr_seam.specs.declared.marks.Marks.{Marks}
 use Rattle.rr_seam.specs.declared.refusal.KeyRefusal.{KeyRefusal}
 use Rattle.rr_seam.specs.declared.words.Language.TheVariants.{Ics}
-use Rattle.rr_icalfile.specs.Edited.{KeyEvents, first_number, key_events, series_of_events}
+use Rattle.rr_icalfile.specs.Days.{day_in, reading_of_events, series_in}
+use Rattle.rr_icalfile.specs.Edited.{KeyEvents, first_number, key_events}
 use Rattle.rr_icalfile.specs.Files.{file_events}
 use Rattle.rr_icalfile.specs.Keys.{key_of}
+use Rattle.rr_icalfile.specs.Lengths.{lengths_of}
 use Rattle.rr_icalfile.specs.Taken.{taken}
 use Rattle.rr_icalfile.specs.Words.{event_words, title_of}
 use Rattle.rr_icalfile.specs.declared.event.Event.{Event}
@@ -46,19 +51,32 @@ abbrev pub zones_by_events : Result KeyEvents KeyRefusal → List (List ℕ)
 zones_by_events (Ok all) = zones_in all
 zones_by_events (Err r) = []
 
+-- ---- lengths
+
+-- the lengths of the events of a key, unless these are refused
+abbrev pub lengths_by_events : Option ℤ → Result KeyEvents KeyRefusal → Option Lengths
+lengths_by_events offset (Ok all) = lengths_of offset all
+lengths_by_events offset (Err r) = None
+
 -- ---- the calendar
 
 -- the words of events
 abbrev pub words_in : List (List Line) → Words
 words_in texts = record { language = Ics; events = map event_words texts }
 
--- what events state together, each by its lines
-abbrev pub stated_by : Option ℤ → List (List Line) → Stated
-stated_by offset texts = record {
-  series = series_of_events offset (taken texts);
+-- how a key is read whose dates beside moments are read as the occurrences of their days, or not
+abbrev pub marks_of_day : Bool → Marks
+marks_of_day day = record { until = false; start = false; day = day }
+
+-- what events state together, each by its lines, read leniently or not
+abbrev pub stated_by : Option ℤ → Bool → List (List Line) → Stated
+stated_by offset lenient texts = record {
+  series = series_in (reading_of_events offset lenient (taken texts));
   place = line_of (key_events (taken texts));
   zones = zones_by_events (key_events (taken texts));
   words = words_in texts;
+  lengths = lengths_by_events offset (key_events (taken texts));
+  marks = marks_of_day (day_in (reading_of_events offset lenient (taken texts)));
 }
 
 -- the lines of the event of an index, if there is one, by the lines of each event of the text
@@ -73,24 +91,28 @@ texts_at texts indexes = flat_map (text_at texts) indexes
 abbrev pub title_at : List (List Line) → ℕ → List ℕ
 title_at texts index = unwrap_or (option_map title_of (slice_get texts index)) []
 
--- the calendar of a text by the lines of each of its events, beside a stated offset
-abbrev pub calendar_of : Option ℤ → List (List Line) → Calendar
-calendar_of offset texts = calendar_by (map key_of texts) (λ indexes. stated_by offset (texts_at texts indexes)) (title_at texts)
+-- the calendar of a text by the lines of each of its events, beside a stated offset, read leniently or not
+abbrev pub calendar_of : Option ℤ → Bool → List (List Line) → Calendar
+calendar_of offset lenient texts =
+    calendar_by (map key_of texts) (λ indexes. stated_by offset lenient (texts_at texts indexes)) (title_at texts)
 
--- what is read of a file: a stated offset, and the lines of each of its events
+-- what is read of a file: a stated offset, whether dates beside moments are read as the occurrences of their days, and the lines of each of its
+-- events
 pub record EventTexts : Type 0 where
   pub offset : Option ℤ
+  pub lenient : Bool
   pub texts : List (List Line)
 
 -- the calendar of what is read of a file
 abbrev pub calendar_in : EventTexts → Calendar
-calendar_in file = calendar_of file.offset file.texts
+calendar_in file = calendar_of file.offset file.lenient file.texts
 
 -- the calendar of the events of a text, unless it is refused
-abbrev pub calendar_by_events : Option ℤ → Result (List (List Line)) FileRefusal → Result Calendar FileRefusal
-calendar_by_events offset (Ok texts) = Ok (calendar_of offset texts)
-calendar_by_events offset (Err r) = Err r
+abbrev pub calendar_by_events : Option ℤ → Bool → Result (List (List Line)) FileRefusal → Result Calendar FileRefusal
+calendar_by_events offset lenient (Ok texts) = Ok (calendar_of offset lenient texts)
+calendar_by_events offset lenient (Err r) = Err r
 
--- The calendar that a file states beside a stated offset of local time from UTC in seconds, or why the whole file is refused.
-abbrev pub calendar : Option ℤ → List ℕ → Result Calendar FileRefusal
-calendar offset bytes = calendar_by_events offset (file_events bytes)
+-- The calendar that a file states beside a stated offset of local time from UTC in seconds, where a date beside moments may be read as the
+-- occurrences of its day, or why the whole file is refused.
+abbrev pub calendar : Option ℤ → Bool → List ℕ → Result Calendar FileRefusal
+calendar offset lenient bytes = calendar_by_events offset lenient (file_events bytes)

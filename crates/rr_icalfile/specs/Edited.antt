@@ -235,7 +235,3 @@ edited_by offset (Some event) instances = edited_with_series offset event instan
 -- the series and the instances of a key
 abbrev pub key_events : List Event → Result KeyEvents KeyRefusal
 key_events events = key_in_turn with_event no_events events
-
--- the series that the events of a key state together
-abbrev pub series_of_events : Option ℤ → List Event → Result Series KeyRefusal
-series_of_events offset events = key_events events >=> λ all. edited_by offset all.series all.instances

@@ -14,6 +14,7 @@ use Rattle.rr_model.specs.declared.used.Scan.{Scan}
 use Rattle.rr_model.specs.declared.used.UsedLine.{UsedLine}
 use Rattle.rr_events.specs.Own.{first_named, first_value, own_lines, value_or_empty}
 use Rattle.rr_events.specs.Parameters.{parameter_of}
+use Rattle.rr_length.specs.Event.{event_length}
 use Rattle.rr_icalfile.specs.Keys.{first_line}
 use Rattle.rr_icalfile.specs.Zones.{event_zones}
 use Rattle.rr_icalfile.specs.declared.event.Event.{Event}
@@ -71,6 +72,7 @@ event_by first scan own = record {
   recurrence = recurrence_of own;
   is_cancelled = is_cancelled own;
   zones = event_zones (is_cancelled own) own;
+  length = event_length own;
 }
 
 -- what the lines of an event state; they are numbered as in the whole text

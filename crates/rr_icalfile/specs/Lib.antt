@@ -6,6 +6,9 @@ pub mod Parts
 pub mod Taken
 pub mod Files
 pub mod Edited
+pub mod Days
+pub mod DayLaws
 pub mod Instances
+pub mod Lengths
 pub mod Unread
 pub mod Calendar

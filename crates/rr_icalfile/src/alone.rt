@@ -124,8 +124,8 @@ fn with_stated(start: Option<Stamp>, stated: Option<Stamp>) -> Option<Stamp>
     }
 }
 
-// The start beside which each of these instances starts.
-fn common_start(instances: &[Event]) -> Stamp
+/// The start beside which each of these instances starts.
+pub(crate) fn common_start(instances: &[Event]) -> Stamp
     ensures { result ≡ common_start instances.now }
 {
     let mut start = None;

@@ -3,7 +3,7 @@ ghost use Rattle.std.specs.Prelude.{◌≡◌, IfOk, option_map};
 ghost use Rattle.rr_model.specs.Answers.{Answers};
 ghost use Rattle.rr_model.specs.Moment.Years.{IsInYears};
 ghost use Rattle.rr_seam.specs.Steps.{AnswersKey};
-ghost use Rattle.rr_icalfile.specs.Edited.{edited_with_series, instance_beside, is_start, moment_of, shifts_of, stamp_on, start_beside, start_line, start_of, with_event_start, with_instance, with_start};
+ghost use Rattle.rr_icalfile.specs.Edited.{edited_with_series, instance_beside, is_start, moment_of, shifts_of, stamp_on, start_beside, start_line, start_of, start_on, with_event_start, with_instance, with_start};
 
 use crate::event::{Event, Recurrence};
 use rr_ical::{Setting, date_beside, date_value};
@@ -20,8 +20,8 @@ fn is_start(line: &UsedLine) -> bool
     matches!(line.name, LineName::Dtstart)
 }
 
-// The first DTSTART of the used lines.
-fn start_line(lines: &[UsedLine]) -> Option<&UsedLine>
+/// The first DTSTART of the used lines.
+pub(crate) fn start_line(lines: &[UsedLine]) -> Option<&UsedLine>
     ensures { option_map (λ line. line.now) result ≡ start_line lines.now }
 {
     for line in lines {
@@ -61,16 +61,23 @@ fn moment_of(setting: Setting, recurrence: &Recurrence) -> Result<i64, Refusal>
     instance_beside(setting, recurrence.line, stamp)
 }
 
-// The start of an instance beside the start of its series.
+/// The start on the DTSTART of an instance beside the start of its series.
+pub(crate) fn start_on(setting: Setting, scan: &Scan) -> Result<i64, Refusal>
+    ensures { result ≡ start_on setting.offset setting.start (start_line scan.now.used) }
+{
+    let Some(line) = start_line(scan.used.as_slice()) else {
+        return Err(Refusal::NoStart);
+    };
+    let stamp = date_value(line.number, line.value.as_slice())?;
+    instance_beside(setting, line.number, stamp)
+}
+
+// The start of an instance, which the reader takes, beside the start of its series.
 fn start_beside(alloc: Global, setting: Setting, scan: &Scan) -> Result<i64, Fault>
     ensures { Answers (start_beside setting.offset setting.start scan.now) result }
 {
     read_scan(alloc, setting.offset, scan)?;
-    let Some(line) = start_line(scan.used.as_slice()) else {
-        return Err(Fault::Refused(Refusal::NoStart));
-    };
-    let stamp = date_value(line.number, line.value.as_slice())?;
-    Ok(instance_beside(setting, line.number, stamp)?)
+    Ok(start_on(setting, scan)?)
 }
 
 // The start of an instance is put in, unless it is cancelled.

@@ -8,6 +8,7 @@ use crate::key::first_line;
 use crate::zone::{ZoneList, event_zones};
 use rr_events::{Piece, first_named, first_value, full_lines, own_lines, parameter_of};
 use rr_ical::{line_kind, scan_lines, value_of_line};
+use rr_length::{Length, event_length};
 use rr_model::{Bytes, Line, LineKind, LineList, LineName, NoMemory, Scan, UsedLine};
 use std::alloc::Global;
 
@@ -35,6 +36,8 @@ pub struct Event {
     pub is_cancelled: bool,
     /// The zones in which its lines state their moments.
     pub zones: ZoneList,
+    /// How long it is by its own lines, if that can be told.
+    pub length: Option<Length>,
 }
 
 // What a RECURRENCE-ID line states.
@@ -108,13 +111,14 @@ fn event_of(alloc: Global, lines: LineList) -> Result<Event, NoMemory>
     ensures { IfOk result (λ event. event ≡ event_of lines) }
 {
     let first = first_line(lines.as_slice());
-    let (recurrence, is_cancelled, zones) = {
+    let (recurrence, is_cancelled, zones, length) = {
         let own = own_lines(alloc, lines.as_slice())?;
         let is_cancelled = is_cancelled(&own);
         (
             recurrence_of(alloc, &own)?,
             is_cancelled,
             event_zones(alloc, is_cancelled, &own)?,
+            event_length(&own),
         )
     };
     let is_unread = recurrence.is_some() && is_cancelled;
@@ -124,6 +128,7 @@ fn event_of(alloc: Global, lines: LineList) -> Result<Event, NoMemory>
         recurrence,
         is_cancelled,
         zones,
+        length,
     })
 }
 

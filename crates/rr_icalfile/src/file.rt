@@ -76,6 +76,7 @@ fn key_at(alloc: Global, pieces: &[Piece], index: usize) -> Result<Key, NoMemory
 #[derive(Drop)]
 pub struct IcalFile<'a> {
     offset: Option<i32>,
+    lenient: bool,
     pieces: Vec<Piece<'a>>,
 }
 
@@ -87,7 +88,11 @@ impl<'a> Model for IcalFile<'a> {
 
     ghost Value = { EventTexts };
 
-    ghost view = { λ f. record { offset = f.offset; texts = map lines_in f.pieces.items } };
+    ghost view = { λ f. record {
+      offset = f.offset;
+      lenient = f.lenient;
+      texts = map lines_in f.pieces.items;
+    } };
 
     ghost invariant = { λ f. All IsNumberedPiece f.pieces.items };
 }
@@ -95,15 +100,25 @@ impl<'a> Model for IcalFile<'a> {
 impl<'a> IcalFile<'a> {
     /// The file of these bytes beside a stated offset, or why the whole file is refused: `TooLong` for more than `MAX_FILE` bytes,
     /// then `NoEvents` if no line has the name BEGIN, then `BadLine` for the first fault of its components.
+    ///
+    /// If it is lenient, an EXDATE or a RECURRENCE-ID that is a date beside a start that is a moment is read as the occurrences of that
+    /// day: as that date with the time of day of the series' start (RFC 5545, sections 3.8.4.4 and 3.8.5.1, ask for a moment). It is
+    /// read so only if no RRULE or EXRULE of the series has a frequency below a day, BYHOUR, BYMINUTE or BYSECOND, and no RDATE of that
+    /// day has another time of day; otherwise such a date is refused, as it is if the file is not lenient.
     pub fn read(
         alloc: Global,
         offset: Option<i32>,
+        lenient: bool,
         bytes: &'a [u8],
     ) -> Result<IcalFile<'a>, FileFault>
-        ensures { AnswersCalendar calendar_in (calendar offset bytes.now) result }
+        ensures { AnswersCalendar calendar_in (calendar offset lenient bytes.now) result }
     {
         let pieces = find_pieces(alloc, bytes)?;
-        Ok(IcalFile { offset, pieces })
+        Ok(IcalFile {
+            offset,
+            lenient,
+            pieces,
+        })
     }
 }
 
@@ -125,7 +140,13 @@ impl<'a> EventFile for IcalFile<'a> {
     }
 
     fn key_series(&self, alloc: Global, indexes: &[usize]) -> Result<KeySeries, KeyFault> {
-        state_key(alloc, self.offset, self.pieces.as_slice(), indexes)
+        state_key(
+            alloc,
+            self.offset,
+            self.lenient,
+            self.pieces.as_slice(),
+            indexes,
+        )
     }
 
     fn key_words(&self, alloc: Global, indexes: &[usize]) -> Result<KeyWords, NoMemory> {

@@ -37,6 +37,14 @@ impl Gathered {
     {
         self.instances.as_slice()
     }
+
+    /// The series, if there is one, and the instances, moved out.
+    pub fn into_parts(self) -> (Option<Event>, Vec<Event>)
+        ensures series { result.0 ≡ self.series }
+        ensures instances { result.1.items ≡ self.instances }
+    {
+        (self.series, self.instances)
+    }
 }
 
 // An instance may have no range, and neither a rule nor dates.

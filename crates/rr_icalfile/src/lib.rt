@@ -2,12 +2,14 @@
 #![tactic(auto)]
 
 mod alone;
+mod day;
 mod edit;
 mod event;
 mod file;
 mod gather;
 mod key;
 mod laws;
+mod lengths;
 mod part;
 mod series;
 mod stated;
@@ -18,5 +20,5 @@ mod words;
 mod zone;
 
 pub use file::IcalFile;
-pub use laws::events_occur;
+pub use laws::{date_takes_time, day_has_one_time, events_occur};
 pub use unread::{Unread, unread_components};

@@ -2,21 +2,22 @@
 ghost use Rattle.std.specs.Prelude.{◌≡◌, ◌++◌, map, All, IfOk, OnOk};
 ghost use Rattle.rr_events.specs.Finding.{lines_in};
 ghost use Rattle.rr_seam.specs.Stated.{AnswersStated};
-ghost use Rattle.rr_icalfile.specs.Calendar.{first_of, stated_by, text_at, texts_at, title_at, words_in, zones_in, zones_of_all};
+ghost use Rattle.rr_icalfile.specs.Calendar.{first_of, marks_of_day, stated_by, text_at, texts_at, title_at, words_in, zones_in, zones_of_all};
 ghost use Rattle.rr_icalfile.specs.Files.{IsNumberedPiece};
 ghost use Rattle.rr_icalfile.specs.Words.{event_words};
 
 use crate::alone::first_number;
+use crate::day::read_key;
 use crate::event::Event;
 use crate::gather::{Gathered, gather};
-use crate::series::series_with_instances;
+use crate::lengths::lengths_of;
 use crate::taken::taken_at;
 use crate::title::read_title;
 use crate::words::read_words;
 use crate::zone::ZoneList;
 use rr_events::Piece;
 use rr_model::{Bytes, NoMemory};
-use rr_seam::{EventWords, KeyFault, KeySeries, KeyWords, Language};
+use rr_seam::{EventWords, KeyFault, KeySeries, KeyWords, Language, Marks};
 use std::alloc::Global;
 
 // Puts the zones of several events.
@@ -51,25 +52,42 @@ fn first_of(events: &Gathered) -> u64
     }
 }
 
-/// What the events of these indexes state together beside a stated offset. The refusal is that of the edited series.
+// How a key is read whose dates beside moments are read as the occurrences of their days, or not.
+fn marks_of_day(day: bool) -> Marks
+    ensures { result ≡ marks_of_day day }
+{
+    Marks {
+        until: false,
+        start: false,
+        day,
+    }
+}
+
+/// What the events of these indexes state together beside a stated offset, read leniently or not. The refusal is that of the edited
+/// series.
 pub(crate) fn state_key(
     alloc: Global,
     offset: Option<i32>,
+    lenient: bool,
     pieces: &[Piece],
     indexes: &[usize],
 ) -> Result<KeySeries, KeyFault>
     requires { All IsNumberedPiece pieces.now }
     ensures { AnswersStated
-        (stated_by offset (texts_at (map lines_in pieces.now) indexes.now)) result }
+        (stated_by offset lenient (texts_at (map lines_in pieces.now) indexes.now)) result }
 {
     let listed = taken_at(alloc, pieces, indexes)?;
     let events = gather(alloc, listed)?;
     let zones = zones_of(alloc, &events)?;
-    let series = series_with_instances(alloc, offset, &events)?;
+    let place = first_of(&events);
+    let lengths = lengths_of(alloc, offset, &events)?;
+    let read = read_key(alloc, offset, lenient, events)?;
     Ok(KeySeries {
-        series,
+        series: read.series,
         zones: zones.into_items(),
-        place: first_of(&events),
+        place,
+        lengths,
+        marks: marks_of_day(read.day),
     })
 }
 

@@ -10,7 +10,11 @@ use Rattle.rr_model.specs.declared.rule.Series.{Series}
 use Rattle.rr_model.specs.declared.stamp.Stamp.{Stamp}
 use Rattle.rr_model.specs.declared.vcal.VSeries.{VSeries}
 use Rattle.rr_events.specs.Own.{first_value, own_lines}
+use Rattle.rr_length.specs.Event.{event_length}
+use Rattle.rr_length.specs.Lengths.{Lengths}
+use Rattle.rr_length.specs.declared.length.Length.{Length}
 use Rattle.rr_vcal.specs.Scans.{vcal_scan}
+use Rattle.rr_seam.specs.Marks.{no_marks}
 use Rattle.rr_seam.specs.Stated.{Calendar, Stated, calendar_by}
 use Rattle.rr_seam.specs.Steps.{◌>=>◌, at_event, key_in_turn}
 use Rattle.rr_seam.specs.Words.{are_same_lines}
@@ -48,9 +52,17 @@ series_of offset event = vseries_of offset event >=> λ series. Ok (series_of_vs
 abbrev pub states_utc : List ℕ → Bool
 states_utc text = unwrap_or (option_map (λ (stamp : Stamp). stamp.utc) (basic (trim text))) false
 
--- the zone of an event: `Z` if its start is a moment of UTC; no other zone is stated
+-- the zone of an event by its own lines: `Z` if its start is a moment of UTC; no other zone is stated
 abbrev pub zone_of : List Line → List ℕ
-zone_of event = if states_utc (first_value (codes "DTSTART") (own_lines [] event)) then codes "Z" else []
+zone_of own = if states_utc (first_value (codes "DTSTART") own) then codes "Z" else []
+
+-- all occurrences have this length
+abbrev pub all_of_length : Length → Lengths
+all_of_length length = record { usual = length; dated = [] }
+
+-- how long the occurrences of an event are by its own lines, if that can be told: all alike, since this language has no instances
+abbrev pub lengths_of : List Line → Option Lengths
+lengths_of own = option_map all_of_length (event_length own)
 
 -- ---- the events of a key
 
@@ -73,18 +85,20 @@ with_index events gathered i = with_found gathered (slice_get events i)
 abbrev pub gathered_at : List (List Line) → List ℕ → Result (Option (List Line)) KeyRefusal
 gathered_at events indexes = key_in_turn (with_index events) None indexes
 
--- what an event states, which a limit refuses at its own line
+-- what an event states, which a limit refuses at its own line; no date is read as the occurrences of its day
 abbrev pub event_stated : Option ℤ → List Line → Stated
 event_stated offset event = record {
   series = series_of offset event;
   place = first_line event;
-  zones = zone_of event ∷ [];
+  zones = zone_of (own_lines [] event) ∷ [];
   words = words_in (event ∷ []);
+  lengths = lengths_of (own_lines [] event);
+  marks = no_marks;
 }
 
 -- what is refused states no series
 abbrev pub refused_stated : KeyRefusal → Stated
-refused_stated r = record { series = Err r; place = 0; zones = []; words = words_in [] }
+refused_stated r = record { series = Err r; place = 0; zones = []; words = words_in []; lengths = None; marks = no_marks }
 
 -- what the events of a key state, by what is gathered of them; none has no start
 abbrev pub gathered_stated : Option ℤ → Result (Option (List Line)) KeyRefusal → Stated

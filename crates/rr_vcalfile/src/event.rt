@@ -1,11 +1,13 @@
 // What an event of a vCalendar text states of itself (vCalendar 1.0, section 2.2).
-ghost use Rattle.std.specs.Prelude.{◌≡◌, map, IfOk};
+ghost use Rattle.std.specs.Prelude.{◌≡◌, [], map, IfOk};
+ghost use Rattle.rr_events.specs.Own.{own_lines};
 ghost use Rattle.rr_vcalfile.specs.Parts.{lines_in};
-ghost use Rattle.rr_vcalfile.specs.Stated.{first_line, key_by, key_of, states_utc, zone_of};
+ghost use Rattle.rr_vcalfile.specs.Stated.{first_line, key_by, key_of, lengths_of, states_utc, zone_of};
 
 use crate::find::part_lines;
 use crate::part::Part;
 use rr_events::{first_value, own_lines};
+use rr_length::{KeyLengths, event_length};
 use rr_model::{Bytes, Line, NoMemory};
 use rr_seam::Key;
 use rr_text::{basic, trim};
@@ -69,14 +71,42 @@ fn states_utc(text: &[u8]) -> bool
     }
 }
 
-/// The zone of an event with these lines: `Z` if its start is a moment of UTC, and none otherwise.
-pub(crate) fn zone_of(alloc: Global, lines: &[Line]) -> Result<Bytes, NoMemory>
-    ensures { IfOk result (λ zone. zone ≡ zone_of lines.now) }
+// The zone of an event by its own lines: `Z` if its start is a moment of UTC, and none otherwise.
+fn zone_of(alloc: Global, own: &[&Line]) -> Result<Bytes, NoMemory>
+    ensures { IfOk result (λ zone. zone ≡ zone_of (map (λ line. line.now) own.now)) }
 {
-    let own = own_lines(alloc, lines)?;
-    if states_utc(first_value(b"DTSTART", &own)) {
+    if states_utc(first_value(b"DTSTART", own)) {
         Ok(Bytes::of(alloc, b"Z")?)
     } else {
         Ok(Bytes::new(alloc))
     }
+}
+
+// How long the occurrences of an event are by its own lines, if that can be told: all alike.
+fn lengths_of(alloc: Global, own: &[&Line]) -> Option<KeyLengths>
+    ensures { result ≡ lengths_of (map (λ line. line.now) own.now) }
+{
+    let length = event_length(own)?;
+    Some(KeyLengths::of(length, Vec::new(alloc)))
+}
+
+/// What an event states beside its series.
+#[derive(Drop)]
+pub(crate) struct Besides {
+    /// Its zone: `Z` if its start is a moment of UTC, and none otherwise.
+    pub(crate) zone: Bytes,
+    /// How long its occurrences are, if that can be told.
+    pub(crate) lengths: Option<KeyLengths>,
+}
+
+/// Reads what an event with these lines states beside its series.
+pub(crate) fn read_besides(alloc: Global, lines: &[Line]) -> Result<Besides, NoMemory>
+    ensures zone { IfOk result (λ beside. beside.zone ≡ zone_of (own_lines [] lines.now)) }
+    ensures lengths { IfOk result (λ beside. beside.lengths ≡ lengths_of (own_lines [] lines.now)) }
+{
+    let own = own_lines(alloc, lines)?;
+    Ok(Besides {
+        zone: zone_of(alloc, &own)?,
+        lengths: lengths_of(alloc, &own),
+    })
 }

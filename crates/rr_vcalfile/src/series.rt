@@ -8,14 +8,14 @@ ghost use Rattle.rr_vcalfile.specs.Gathered.{first_lines};
 ghost use Rattle.rr_vcalfile.specs.Parts.{lines_in};
 ghost use Rattle.rr_vcalfile.specs.Stated.{event_stated, gathered_stated, series_of, stated_in, vseries_of};
 
-use crate::event::{first_line, zone_of};
+use crate::event::{first_line, read_besides};
 use crate::find::part_lines;
 use crate::first::FirstEvent;
 use crate::gather::gather;
 use crate::part::Part;
 use rr_ical::scan_lines;
 use rr_model::{Bytes, LineList, NoMemory, Refusal, Series, VSeries};
-use rr_seam::{KeyFault, KeyRefusal, KeySeries, at_event};
+use rr_seam::{KeyFault, KeyRefusal, KeySeries, Marks, at_event};
 use rr_vcal::{read_scan, to_series};
 use std::alloc::Global;
 
@@ -50,18 +50,21 @@ fn one_zone(alloc: Global, zone: Bytes) -> Result<Vec<Bytes>, NoMemory>
     Ok(zones)
 }
 
-// What an event states.
+// What an event states. No date of it is read as the occurrences of its day.
 fn event_stated(alloc: Global, offset: Option<i32>, part: Part) -> Result<KeySeries, KeyFault>
     ensures { AnswersStated (event_stated offset (lines_in part.entry)) result }
 {
     let lines = part_lines(alloc, part)?;
     let place = first_line(lines.as_slice());
-    let zones = one_zone(alloc, zone_of(alloc, lines.as_slice())?)?;
+    let besides = read_besides(alloc, lines.as_slice())?;
+    let zones = one_zone(alloc, besides.zone)?;
     let series = series_of(alloc, offset, lines)?;
     Ok(KeySeries {
         series,
         zones,
         place,
+        lengths: besides.lengths,
+        marks: Marks::none(),
     })
 }
 
