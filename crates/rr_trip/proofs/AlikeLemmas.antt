@@ -15,6 +15,7 @@ use Rattle.rr_model.specs.declared.verdict.Verdict.{Verdict}
 use Rattle.rr_model.specs.declared.verdict.Verdict.TheVariants.{Yes, No}
 use Rattle.rr_model.proofs.RisingSetLemmas.{Contains-none}
 use Rattle.rr_fold.specs.Judged.{all_limits}
+use Rattle.rr_length.specs.Lengths.{Lengths}
 use Rattle.rr_seam.specs.Stated.{Stated}
 use Rattle.rr_seam.specs.Words.{are_same_words}
 use Rattle.rr_seam.specs.declared.refusal.KeyRefusal.{KeyRefusal}
@@ -23,7 +24,7 @@ use Rattle.rr_trip.specs.Counts.{is_alike}
 use Rattle.rr_trip.specs.Judged.{IsRefusalBy, IsRefused}
 use Rattle.rr_trip.specs.Laws.{AlikeIsExact, AreRefusedAlike, EmptyHasNone, IsAlikeSaid}
 use Rattle.rr_trip.specs.Readings.{Reading, Zone}
-use Rattle.rr_trip.specs.Said.{IsAlikeTo, IsRefusedOn, IsSaidBy, IsSaidOfBoth, said_of_moments}
+use Rattle.rr_trip.specs.Said.{IsAlikeTo, IsRefusedOn, IsSaidBehind, IsSaidBy, IsSaidOfBoth, IsSaidWithLengths, occurs_at, said_of_moments}
 use Rattle.rr_trip.specs.Zoned.{Meaning}
 use Rattle.rr_trip.specs.declared.said.Said.{Said}
 
@@ -72,13 +73,23 @@ compared_apart (Reading.floating side) P Q told (inr h) = ap is_alike h.1
 compared_apart (Reading.moments a b) P Q told (inl h) = ap is_alike h.is ∙ alike_of_moments a b h.verdict h.only_zones
 compared_apart (Reading.moments a b) P Q told (inr h) = ap is_alike h.1.is
 
+-- nor is what is said of how long occurrences are
+behind_apart : (P : ℤ → Type 0) (a b : Option Lengths) (times told : Said) → is_alike times ≡ false → IsSaidBehind P a b times told
+    → is_alike told ≡ false
+behind_apart P a b times told e (inl h) = ap is_alike h.1.is
+behind_apart P a b times told e (inr h) = ap is_alike h.1 ∙ e
+
+with_lengths_apart : (reading : Reading) (P Q : Series) (a b : Option Lengths) (told : Said) → IsSaidWithLengths reading P Q a b told
+    → is_alike told ≡ false
+with_lengths_apart reading P Q a b told h = behind_apart (occurs_at P) a b h.times told (compared_apart reading P Q h.times h.of_times) h.behind
+
 not_said : (told : Said) → is_alike told ≡ false → IsAlikeSaid told → ⊥
 not_said told apart e = true≢false (sym (ap is_alike e.1) ∙ apart)
 
 only_alike : (ma mb : Meaning) (a b : Stated) (told : Said) → IsSaidOfBoth ma mb a b told → IsAlikeSaid told → AreRefusedAlike a b
 only_alike ma mb a b told (inl h) e = ((h.refusal, h.alike.refused), h.alike.alike.0, h.alike.alike.1)
 only_alike ma mb a b told (inr (inl h)) e = absurd (not_said told (ap is_alike h.is) e)
-only_alike ma mb a b told (inr (inr h)) e = absurd (not_said told (compared_apart _ h.series_a h.series_b told h.is_said) e)
+only_alike ma mb a b told (inr (inr h)) e = absurd (not_said told (with_lengths_apart _ h.series_a h.series_b a.lengths b.lengths told h.is_said) e)
 
 -- the refusal of one side is not that of both
 refused_apart : FirstRefusalIsOne → (a b : Stated) (side : Side) (r : KeyRefusal) → IsRefusedOn side a b r → AreRefusedAlike a b → ⊥

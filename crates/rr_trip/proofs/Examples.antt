@@ -5,13 +5,15 @@ use Rattle.rr_model.specs.declared.kind.Kind.TheVariants.{Days, Moments}
 use Rattle.rr_model.specs.Text.Lists.{series_of_list}
 use Rattle.rr_model.specs.declared.verdict.Side.TheVariants.{A, B}
 use Rattle.rr_model.specs.declared.verdict.Verdict.TheVariants.{Yes}
+use Rattle.rr_length.specs.Length.{length_of}
+use Rattle.rr_seam.specs.Marks.{no_marks}
 use Rattle.rr_seam.specs.declared.key.Key.TheVariants.{Uid}
 use Rattle.rr_seam.specs.declared.refusal.KeyRefusal.TheVariants.{TwoSeries}
-use Rattle.rr_trip.specs.Printed.{line_text, said_text}
+use Rattle.rr_trip.specs.Printed.{line_text, said_line, said_text}
 use Rattle.rr_trip.specs.Readings.{Reading, reading_of}
 use Rattle.rr_trip.specs.Said.{is_empty, said_of_empty}
 use Rattle.rr_trip.specs.Zoned.{Meaning}
-use Rattle.rr_trip.specs.declared.said.Said.TheVariants.{Alike, Compared, Floating, Only}
+use Rattle.rr_trip.specs.declared.said.Said.TheVariants.{Alike, Compared, Floating, Length, Only}
 use Rattle.rr_trip.specs.declared.said.Zones.TheVariants.{Local}
 use Rattle.rr_true.specs.Occurrences.{utc}
 
@@ -23,9 +25,20 @@ floats = refl
 alike : said_text (codes "a") (Alike (TwoSeries 4)) ≡ codes "alike a A TwoSeries " ++ decimal 4
 alike = refl
 
+-- a line of a key of which one occurrence has two lengths
+longer : said_text (codes "a") (Length (record { at = pos 0; a = length_of 0 3_600; b = length_of 0 900 }))
+    ≡ codes "length a " ++ decimal 3_600 ++ codes " " ++ decimal 900
+longer = refl
+
 -- a line with its title, here an empty one, as its last field
-titled : line_text true (record { key = Uid (codes "a"); said = Only B; title = Some [] }) ≡ codes "only B a \"\"\n"
+titled : line_text true (record { key = Uid (codes "a"); said = Only B; marks = no_marks; title = Some [] }) ≡ codes "only B a \"\"\n"
+unfolding said_line
 titled = refl
+
+-- how events are read, as the last words before it
+marked : said_line (codes "a") (Floating A) (record { until = true; start = false; day = true }) None ≡ codes "differs a floating A until day\n"
+unfolding said_line
+marked = refl
 
 -- what a cancelled event states has no occurrence, and what a single event states has one
 cancelled : said_of_empty A (is_empty (series_of_list None [])) ≡ Compared Yes Local

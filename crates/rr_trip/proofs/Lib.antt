@@ -2,6 +2,7 @@ mod Examples
 mod JudgeLemmas
 mod SaidLemmas
 mod AlikeLemmas
+mod LengthLemmas
 mod ZoneLemmas
 mod KnownLemmas
 mod EntryLemmas

@@ -16,7 +16,7 @@ use Rattle.rr_model.specs.declared.verdict.Side.TheVariants.{A, B}
 use Rattle.rr_trip.specs.Entries.{IsSortedOf, entries_from, entries_of, has_key, indexes_in, is_of_a}
 use Rattle.rr_seam.specs.Keys.{is_same_key, key_cmp}
 use Rattle.rr_trip.specs.Report.{AreLinesOf, IsLineOf, IsReport, IsRunAt, IsRunCount, after_a, front_of_a, indexes_from, keys_of, stated_at, stated_in, title_at, title_by, title_if}
-use Rattle.rr_trip.specs.Said.{IsSaid}
+use Rattle.rr_trip.specs.Said.{IsSaid, marks_said}
 use Rattle.rr_trip.specs.Zoned.{ZonedCalendar}
 use Rattle.rr_trip.specs.declared.entry.Entry.{Entry}
 use Rattle.rr_seam.specs.declared.key.Key.{Key}
@@ -270,6 +270,17 @@ said_of_keys titles a b line is =
     (subst (λ is'. IsSaid a.means b.means (stated_in a.stated (indexes_in (front_of_a (filter (has_key k) (entries_of a.keys b.keys))))) (stated_in b.stated is') line.said)
     (after_indexes a b k) is.said)
 
+-- how its events are read is how those of each calendar are
+marks_of_keys : (titles : Bool) (a b : ZonedCalendar) (line : ReportLine)
+    → IsLineOf titles a b line.key (filter (has_key line.key) (entries_of a.keys b.keys)) line
+    → line.marks ≡ marks_said (stated_at a line.key) (stated_at b line.key) line.said
+marks_of_keys titles a b line is =
+    let k = line.key in
+    is.marked
+    ∙ ap (λ is'. marks_said (stated_in a.stated is') (stated_in b.stated (indexes_in (after_a (filter (has_key k) (entries_of a.keys b.keys))))) line.said)
+    (front_indexes a b k)
+    ∙ ap (λ is'. marks_said (stated_in a.stated (indexes_from (test a b k) 0 a.keys)) (stated_in b.stated is') line.said) (after_indexes a b k)
+
 -- its title is that of the first of them
 title_of_keys : (titles : Bool) (a b : ZonedCalendar) (line : ReportLine)
     → IsLineOf titles a b line.key (filter (has_key line.key) (entries_of a.keys b.keys)) line → line.title ≡ title_if titles (title_at a b line.key)
@@ -305,6 +316,7 @@ is_report titles a b sorted lines order lined =
       every = subst (All (Contains (keys_of lines))) same (All-map (Contains (keys_of lines)) entry_key (entries_of a.keys b.keys) is.every);
       none_else = λ n d h. subst (λ ks. Contains ks (line_key (get_or lines n d))) same (is.none_else n d h);
       said = λ n d h. said_of_keys titles a b (get_or lines n d) (is.said n d h);
+      marked = λ n d h. marks_of_keys titles a b (get_or lines n d) (is.said n d h);
       titled = λ n d h. title_of_keys titles a b (get_or lines n d) (is.said n d h);
       printable = λ n d h. (is.said n d h).printable;
     }

@@ -21,7 +21,7 @@ use Rattle.rr_seam.specs.Stated.{Stated}
 use Rattle.rr_seam.specs.declared.key.Key.{Key}
 use Rattle.rr_trip.specs.Judged.{IsFoldOf}
 use Rattle.rr_trip.specs.Pairs.{IsJudged, IsJudgedBoth, IsPairOf, IsSaidOfJudged, days_b, series_b}
-use Rattle.rr_trip.specs.Printed.{IsPrintableFurther}
+use Rattle.rr_trip.specs.Printed.{IsPrintableFurther, said_line}
 use Rattle.rr_trip.specs.Report.{indexes_from, stated_in, title_by, title_if}
 use Rattle.rr_trip.specs.Said.{said_alone}
 use Rattle.rr_trip.specs.Shown.{IsPictureFor, IsPictureOfJudged, IsShownBy, IsShownOf, IsShownSaid, IsUncompared, IsUnknown, TellsOfBoth, are_none, is_key_named, keys_titled, named_part, titled_part}
@@ -33,7 +33,7 @@ use Rattle.rr_trip.specs.declared.said.Said.{Said}
 use Rattle.rr_trip.specs.declared.said.Said.TheVariants as said
 use Rattle.rr_trip.specs.declared.shown.Shown.{Shown}
 use Rattle.rr_trip.proofs.EntryLemmas.{key_there}
-use Rattle.rr_trip.proofs.SaidLemmas.{holds_from_year_one, said_judged}
+use Rattle.rr_trip.proofs.SaidLemmas.{holds_from_year_one, marks_judged, said_judged}
 
 -- ---- the indexes of a name
 
@@ -110,6 +110,7 @@ picture_both a b (judged.Told (said.Only side)) told ma mb text h e p = absurd h
 picture_both a b (judged.Told (said.Refused side refusal)) told ma mb text h e p = inl (subst IsUncompared (sym e) tt, p)
 picture_both a b (judged.Told (said.Alike refusal)) told ma mb text h e p = inl (subst IsUncompared (sym e) tt, p)
 picture_both a b (judged.Told (said.Floating side)) told ma mb text h e p = absurd h
+picture_both a b (judged.Told (said.Length other)) told ma mb text h e p = absurd h
 picture_both a b (judged.Told (said.Compared verdict zones)) told ma mb text h e p = absurd h
 picture_both a b (judged.Compared pair) told ma mb text h e p = inr (told_both a b pair text h p)
 
@@ -133,7 +134,9 @@ module _ (titles : Bool) (a b : ZonedCalendar) (j : Judged) where
     is_said = said_judged a.means b.means (stated_in a.stated is) (stated_in b.stated js) j by.said h by.is_said;
     tells = by.tells;
     status = by.status;
-    text = by.text;
+    text = by.text
+        ∙ ap (λ ms. said_line name by.said ms (title_if titles (title_by a.titles b.titles is js)) ++ by.more)
+        (marks_judged a.means b.means (stated_in a.stated is) (stated_in b.stated js) j by.said h by.is_said);
     picture = picture_is (stated_in a.stated is) (stated_in b.stated js) j by.said a.means b.means by.more h by.is_said by.picture;
   }
 

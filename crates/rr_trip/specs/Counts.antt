@@ -13,7 +13,7 @@ use Rattle.rr_trip.specs.declared.report.ReportLine.{ReportLine}
 use Rattle.rr_trip.specs.declared.report.Status.{Status}
 use Rattle.rr_trip.specs.declared.report.Status.TheVariants as status
 use Rattle.rr_trip.specs.declared.said.Said.{Said}
-use Rattle.rr_trip.specs.declared.said.Said.TheVariants.{Only, Refused, Alike, Floating, Compared}
+use Rattle.rr_trip.specs.declared.said.Said.TheVariants.{Only, Refused, Alike, Floating, Length, Compared}
 use Rattle.rr_trip.specs.declared.said.Zones.{Zones}
 use Rattle.rr_trip.specs.declared.said.Zones.TheVariants.{Local, Unknown, Moments}
 
@@ -23,15 +23,17 @@ is_equal (Only side) = false
 is_equal (Refused side refusal) = false
 is_equal (Alike refusal) = false
 is_equal (Floating side) = false
+is_equal (Length other) = false
 is_equal (Compared Yes zones) = true
 is_equal (Compared (No kind at side) zones) = false
 
--- the key has an occurrence that one calendar alone has, or has a zone in one alone
+-- the key has an occurrence that one calendar alone has or that is of two lengths, or has a zone in one alone
 abbrev pub differs : Said → Bool
 differs (Only side) = false
 differs (Refused side refusal) = false
 differs (Alike refusal) = false
 differs (Floating side) = true
+differs (Length other) = true
 differs (Compared Yes zones) = false
 differs (Compared (No kind at side) zones) = true
 
@@ -48,6 +50,7 @@ is_only side (Only other) = is_same_side other side
 is_only side (Refused other refusal) = false
 is_only side (Alike refusal) = false
 is_only side (Floating other) = false
+is_only side (Length other) = false
 is_only side (Compared verdict zones) = false
 
 -- the events of the key are refused
@@ -56,6 +59,7 @@ is_refused (Only side) = false
 is_refused (Refused side refusal) = true
 is_refused (Alike refusal) = false
 is_refused (Floating side) = false
+is_refused (Length other) = false
 is_refused (Compared verdict zones) = false
 
 -- both calendars refuse the events of the key and state them in the same words
@@ -64,6 +68,7 @@ is_alike (Only side) = false
 is_alike (Refused side refusal) = false
 is_alike (Alike refusal) = true
 is_alike (Floating side) = false
+is_alike (Length other) = false
 is_alike (Compared verdict zones) = false
 
 -- a refusal is of a moment in UTC beside local time
@@ -77,6 +82,7 @@ is_in_utc (Only side) = false
 is_in_utc (Refused side refusal) = is_utc refusal
 is_in_utc (Alike refusal) = is_utc refusal
 is_in_utc (Floating side) = false
+is_in_utc (Length other) = false
 is_in_utc (Compared verdict zones) = false
 
 -- the zones may differ, though local times are equal
@@ -91,6 +97,7 @@ is_unsure (Only side) = false
 is_unsure (Refused side refusal) = false
 is_unsure (Alike refusal) = false
 is_unsure (Floating side) = false
+is_unsure (Length other) = false
 is_unsure (Compared Yes zones) = may_differ zones
 is_unsure (Compared (No kind at side) zones) = false
 

@@ -34,9 +34,13 @@ abbrev pub IsFaultOf : Series → Fault → Type 0
 IsFaultOf series (fault.Refused r) = IsFirstRefusal all_limits series (Some r)
 IsFaultOf series fault.NoMemory = ⊤
 
--- the days of a key have its series and its zones, and are those of that series
-abbrev pub AreDaysOfKey : KeySeries → KeyDays → Type 0
-AreDaysOfKey key made = (made.series ≡ key.series) × (made.zones ≡ key.zones) × IsFoldOf made.series (sketch made.days)
+-- the days of a key have its series, and all else that it states, and are those of that series
+pub record AreDaysOfKey (key : KeySeries) (made : KeyDays) : Type 0 where
+  pub series : made.series ≡ key.series
+  pub zones : made.zones ≡ key.zones
+  pub lengths : made.lengths ≡ key.lengths
+  pub marks : made.marks ≡ key.marks
+  pub folded : IsFoldOf made.series (sketch made.days)
 
 -- ---- the events of a key
 

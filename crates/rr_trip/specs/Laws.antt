@@ -1,5 +1,7 @@
 -- What follows of what is said of a key.
-use Rattle.std.specs.Prelude.{◌≡◌, ◌↔◌, true, ℤ}
+use Rattle.std.specs.Prelude.{◌≡◌, ◌↔◌, true, ℤ, Option}
+use Rattle.rr_length.specs.Lengths.{Lengths}
+use Rattle.rr_length.specs.declared.other.OtherLength.{OtherLength}
 use Rattle.rr_model.specs.Series.Occurrences.{Occurs}
 use Rattle.rr_model.specs.declared.kind.Kind.{Kind}
 use Rattle.rr_model.specs.declared.rule.Series.{Series}
@@ -7,10 +9,11 @@ use Rattle.rr_seam.specs.Stated.{Stated}
 use Rattle.rr_seam.specs.Words.{are_same_words}
 use Rattle.rr_seam.specs.declared.refusal.KeyRefusal.{KeyRefusal}
 use Rattle.rr_trip.specs.Judged.{IsRefused}
-use Rattle.rr_trip.specs.Said.{IsSaidOfBoth, is_empty}
+use Rattle.rr_trip.specs.Readings.{Reading}
+use Rattle.rr_trip.specs.Said.{HasOtherLength, IsSaidBehind, IsSaidBy, IsSaidOfBoth, has_equal_times, is_empty, occurs_at}
 use Rattle.rr_trip.specs.Zoned.{Meaning}
 use Rattle.rr_trip.specs.declared.said.Said.{Said}
-use Rattle.rr_trip.specs.declared.said.Said.TheVariants.{Alike}
+use Rattle.rr_trip.specs.declared.said.Said.TheVariants.{Alike, Length}
 
 -- it is said that both calendars refuse the events of a key and state them in the same words
 abbrev pub IsAlikeSaid : Said → Type 0
@@ -28,3 +31,16 @@ AlikeIsExact =
 -- In a series that is empty by its form nothing occurs.
 abbrev pub EmptyHasNone : Type 0
 EmptyHasNone = (series : Series) (k : Kind) (t : ℤ) → is_empty series ≡ true → Occurs series k t → ⊥
+
+-- ---- lengths
+
+-- it is said that an occurrence has two lengths
+abbrev pub IsLengthSaid : Said → Type 0
+IsLengthSaid said = (other : OtherLength) × (said ≡ Length other)
+
+-- Behind what is said of times it is said that an occurrence has two lengths exactly where local times are equal for ever, both sides tell
+-- how long their occurrences are, and one has two lengths.
+abbrev pub LengthIsExact : Type 0
+LengthIsExact =
+    (a b : Option Lengths) (reading : Reading) (A B : Series) (times said : Said) → IsSaidBy reading A B times
+    → IsSaidBehind (occurs_at A) a b times said → IsLengthSaid said ↔ ((has_equal_times times ≡ true) × HasOtherLength (occurs_at A) a b)

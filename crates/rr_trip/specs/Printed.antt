@@ -11,17 +11,19 @@ use Rattle.rr_model.specs.declared.verdict.Verdict.{Verdict}
 use Rattle.rr_model.specs.declared.verdict.Verdict.TheVariants.{Yes, No}
 use Rattle.rr_differ.specs.declared.further.Further.{Further}
 use Rattle.rr_differ.specs.declared.further.Further.TheVariants.{NoMore, Until, Many, ForEver}
+use Rattle.rr_length.specs.Length.{length_text}
 use Rattle.rr_seam.specs.declared.file.FileRefusal.{FileRefusal}
 use Rattle.rr_seam.specs.declared.file.FileRefusal.TheVariants as file
 use Rattle.rr_seam.specs.declared.refusal.KeyRefusal.{KeyRefusal}
 use Rattle.rr_seam.specs.declared.refusal.KeyRefusal.TheVariants as refusal
+use Rattle.rr_seam.specs.declared.marks.Marks.{Marks}
 use Rattle.rr_seam.specs.declared.key.Key.{Key}
 use Rattle.rr_seam.specs.declared.key.Key.TheVariants as key
 use Rattle.rr_trip.specs.Counts.{counts_of, is_equal, is_unsure}
 use Rattle.rr_trip.specs.declared.report.Counts.{Counts}
 use Rattle.rr_trip.specs.declared.report.ReportLine.{ReportLine}
 use Rattle.rr_trip.specs.declared.said.Said.{Said}
-use Rattle.rr_trip.specs.declared.said.Said.TheVariants.{Only, Refused, Alike, Floating, Compared}
+use Rattle.rr_trip.specs.declared.said.Said.TheVariants.{Only, Refused, Alike, Floating, Length, Compared}
 use Rattle.rr_trip.specs.declared.said.Ahead.{Ahead}
 use Rattle.rr_trip.specs.declared.said.Ahead.TheVariants.{Utc, By}
 use Rattle.rr_trip.specs.declared.said.Zones.{Zones}
@@ -167,12 +169,26 @@ said_text key (Only side) = codes "only " ++ side_text side ++ codes " " ++ key
 said_text key (Refused side r) = codes "refused " ++ key ++ codes " " ++ side_text side ++ codes " " ++ key_refusal_text r
 said_text key (Alike r) = codes "alike " ++ key ++ codes " A " ++ key_refusal_text r
 said_text key (Floating side) = codes "differs " ++ key ++ codes " floating " ++ side_text side
+said_text key (Length other) = codes "length " ++ key ++ codes " " ++ length_text other.a ++ codes " " ++ length_text other.b
 said_text key (Compared verdict zones) = verdict_text key verdict zones
+
+-- a word behind a line, if it is said
+abbrev pub word_if : Bool → List ℕ → List ℕ
+word_if true word = word
+word_if false word = []
+
+-- how the events of a key are read, as the last words of its line
+abbrev pub marks_text : Marks → List ℕ
+marks_text marks = word_if marks.until (codes " until") ++ word_if marks.start (codes " start") ++ word_if marks.day (codes " day")
 
 -- the title of a key as the last field of its line, between quotes; nothing if titles are not asked for
 abbrev pub title_field : Option (List ℕ) → List ℕ
 title_field None = []
 title_field (Some title) = codes " \"" ++ title_text title ++ codes "\""
+
+-- the whole line of a key that is printed so
+unfoldable pub said_line : List ℕ → Said → Marks → Option (List ℕ) → List ℕ
+said_line key said marks title = said_text key said ++ marks_text marks ++ title_field title ++ codes "\n"
 
 -- a line is printed if those of equal keys are left out, unless nobody can tell of one
 abbrev pub is_difference : Said → Bool
@@ -181,7 +197,7 @@ is_difference said = not (is_equal said) || is_unsure said
 -- the line of a key, or nothing where it is left out
 abbrev pub line_text : Bool → ReportLine → List ℕ
 line_text only_differences line =
-    if not only_differences || is_difference line.said then said_text (key_text line.key) line.said ++ title_field line.title ++ codes "\n" else []
+    if not only_differences || is_difference line.said then said_line (key_text line.key) line.said line.marks line.title else []
 
 -- the printed lines of the keys of a report
 abbrev pub lines_text : Bool → List ReportLine → List ℕ

@@ -6,7 +6,7 @@ use Rattle.rr_seam.specs.Keys.{is_same_key, key_lt}
 use Rattle.rr_seam.specs.Stated.{Stated}
 use Rattle.rr_seam.specs.declared.key.Key.{Key}
 use Rattle.rr_trip.specs.Entries.{has_key, indexes_in, is_of_a}
-use Rattle.rr_trip.specs.Said.{IsPrintableSaid, IsSaid}
+use Rattle.rr_trip.specs.Said.{IsPrintableSaid, IsSaid, marks_said}
 use Rattle.rr_trip.specs.Zoned.{ZonedCalendar}
 use Rattle.rr_trip.specs.declared.entry.Entry.{Entry}
 use Rattle.rr_trip.specs.declared.entry.KeyIndexes.{KeyIndexes}
@@ -49,12 +49,14 @@ title_at a b key =
 abbrev pub keys_of : List ReportLine → List Key
 keys_of lines = map (λ (line : ReportLine). line.key) lines
 
--- each key of either calendar has one line, in their order, and each line says what is so of its key, with its title if titles are asked for
+-- each key of either calendar has one line, in their order, and each line says what is so of its key, and how its events are read, with its
+-- title if titles are asked for
 pub record IsReport (titles : Bool) (a b : ZonedCalendar) (lines : List ReportLine) : Type 0 where
   pub rises : Rises key_lt (keys_of lines)
   pub every : All (Contains (keys_of lines)) (a.keys ++ b.keys)
   pub none_else : All (λ (line : ReportLine). Contains (a.keys ++ b.keys) line.key) lines
   pub said : All (λ (line : ReportLine). IsSaid a.means b.means (stated_at a line.key) (stated_at b line.key) line.said) lines
+  pub marked : All (λ (line : ReportLine). line.marks ≡ marks_said (stated_at a line.key) (stated_at b line.key) line.said) lines
   pub titled : All (λ (line : ReportLine). line.title ≡ title_if titles (title_at a b line.key)) lines
   pub printable : All (λ (line : ReportLine). IsPrintableSaid line.said) lines
 
@@ -72,6 +74,7 @@ after_a entries = drop (length (front_of_a entries)) entries
 pub record IsLineOf (titles : Bool) (a b : ZonedCalendar) (key : Key) (run : List Entry) (line : ReportLine) : Type 0 where
   pub of_key : line.key ≡ key
   pub said : IsSaid a.means b.means (stated_in a.stated (indexes_in (front_of_a run))) (stated_in b.stated (indexes_in (after_a run))) line.said
+  pub marked : line.marks ≡ marks_said (stated_in a.stated (indexes_in (front_of_a run))) (stated_in b.stated (indexes_in (after_a run))) line.said
   pub titled : line.title ≡ title_if titles (title_by a.titles b.titles (indexes_in (front_of_a run)) (indexes_in (after_a run)))
   pub printable : IsPrintableSaid line.said
 

@@ -12,8 +12,12 @@ use Rattle.rr_model.specs.declared.verdict.Side.{Side}
 use Rattle.rr_model.specs.declared.verdict.Side.TheVariants.{A, B, Both}
 use Rattle.rr_model.specs.declared.verdict.Verdict.{Verdict}
 use Rattle.rr_model.specs.declared.verdict.Verdict.TheVariants.{Yes, No}
+use Rattle.rr_length.specs.Lengths.{HasNearDates, IsFirstOther, Lengths}
+use Rattle.rr_length.specs.declared.other.OtherLength.{OtherLength}
+use Rattle.rr_seam.specs.Marks.{marks_of_both, no_marks}
 use Rattle.rr_seam.specs.Stated.{Stated}
 use Rattle.rr_seam.specs.Words.{are_same_words}
+use Rattle.rr_seam.specs.declared.marks.Marks.{Marks}
 use Rattle.rr_seam.specs.declared.refusal.KeyRefusal.{KeyRefusal}
 use Rattle.rr_text.specs.Printed.{IsPrintable, IsPrintableAt}
 use Rattle.rr_true.specs.Changes.{IsBelowDay}
@@ -26,7 +30,7 @@ use Rattle.rr_trip.specs.Zoned.{Meaning, is_utc}
 use Rattle.rr_trip.specs.declared.said.Ahead.{Ahead}
 use Rattle.rr_trip.specs.declared.said.Ahead.TheVariants.{Utc, By}
 use Rattle.rr_trip.specs.declared.said.Said.{Said}
-use Rattle.rr_trip.specs.declared.said.Said.TheVariants.{Only, Refused, Alike, Floating, Compared}
+use Rattle.rr_trip.specs.declared.said.Said.TheVariants.{Only, Refused, Alike, Floating, Length, Compared}
 use Rattle.rr_trip.specs.declared.said.Zones.{Zones}
 use Rattle.rr_trip.specs.declared.said.Zones.TheVariants.{Local, Unknown, Moments}
 
@@ -163,12 +167,62 @@ IsSaidByMoments a b P Q said =
 
 -- ---- what is said
 
--- what is said of two series that are compared in this way
+-- what is said of the times of two series that are compared in this way
 abbrev pub IsSaidBy : Reading → Series → Series → Said → Type 0
 IsSaidBy Reading.local P Q said = IsComparedLocally Local (Occurs P) (Occurs Q) said
 IsSaidBy Reading.unknown P Q said = IsComparedLocally Unknown (Occurs P) (Occurs Q) said
 IsSaidBy (Reading.floating side) P Q said = IsSaidFloating side (Occurs P) (Occurs Q) said
 IsSaidBy (Reading.moments a b) P Q said = IsSaidByMoments a b P Q said
+
+-- ---- lengths
+
+-- a series occurs at a moment of its own kind
+abbrev pub occurs_at : Series → ℤ → Type 0
+occurs_at series t = Occurs series series.kind t
+
+-- both sides tell how long their occurrences are, by dates of the years 1 to 9999, and this is the first occurrence that has two lengths
+pub record IsOtherLength (P : ℤ → Type 0) (a b : Option Lengths) (other : OtherLength) : Type 0 where
+  pub lengths_a : Lengths
+  pub lengths_b : Lengths
+  pub of_a : a ≡ Some lengths_a
+  pub of_b : b ≡ Some lengths_b
+  pub near_a : HasNearDates lengths_a.dated
+  pub near_b : HasNearDates lengths_b.dated
+  pub is_other : IsFirstOther P lengths_a lengths_b other
+
+-- some occurrence has two lengths
+abbrev pub HasOtherLength : (ℤ → Type 0) → Option Lengths → Option Lengths → Type 0
+HasOtherLength P a b = (other : OtherLength) × IsOtherLength P a b other
+
+-- the answer is the first occurrence that has two lengths, or there is none
+abbrev pub IsAnsweredLength : (ℤ → Type 0) → Option Lengths → Option Lengths → Option OtherLength → Type 0
+IsAnsweredLength P a b (Some other) = IsOtherLength P a b other
+IsAnsweredLength P a b None = HasOtherLength P a b → ⊥
+
+-- it is said that an occurrence has two lengths
+pub record IsSaidLength (P : ℤ → Type 0) (a b : Option Lengths) (said : Said) : Type 0 where
+  pub other : OtherLength
+  pub is_other : IsOtherLength P a b other
+  pub is : said ≡ Length other
+
+-- the local times that were compared are equal, for ever
+abbrev pub has_equal_times : Said → Bool
+has_equal_times (Compared Yes Local) = true
+has_equal_times (Compared Yes Unknown) = true
+has_equal_times (Compared Yes (Moments ahead only_zones)) = only_zones
+has_equal_times said = false
+
+-- what is said behind what is said of times: if local times are equal for ever, that an occurrence has two lengths, if one has
+abbrev pub IsSaidBehind : (ℤ → Type 0) → Option Lengths → Option Lengths → Said → Said → Type 0
+IsSaidBehind P a b times said =
+    ((has_equal_times times ≡ true) × IsSaidLength P a b said)
+    ⊎ (((has_equal_times times ≡ true) → HasOtherLength P a b → ⊥) × (said ≡ times))
+
+-- what is said of two series and the lengths of their occurrences, if they are compared in this way
+pub record IsSaidWithLengths (reading : Reading) (P Q : Series) (a b : Option Lengths) (said : Said) : Type 0 where
+  pub times : Said
+  pub of_times : IsSaidBy reading P Q times
+  pub behind : IsSaidBehind (occurs_at P) a b times said
 
 -- the events of a key state a series in each calendar, and this is said of them, in the way that their kinds and zones ask for
 pub record IsComparison (means_a means_b : Meaning) (a b : Stated) (said : Said) : Type 0 where
@@ -176,7 +230,8 @@ pub record IsComparison (means_a means_b : Meaning) (a b : Stated) (said : Said)
   pub series_b : Series
   pub first : IsKeySeries a series_a
   pub second : IsKeySeries b series_b
-  pub is_said : IsSaidBy (reading_of means_a means_b series_a.kind series_b.kind a.zones b.zones) series_a series_b said
+  pub is_said :
+      IsSaidWithLengths (reading_of means_a means_b series_a.kind series_b.kind a.zones b.zones) series_a series_b a.lengths b.lengths said
 
 -- what is said of a key that both calendars have: that both refuse it in the same words; otherwise the refusal of A, otherwise that of B,
 -- otherwise whether their occurrences are equal
@@ -190,6 +245,22 @@ IsSaid means_a means_b None None said = said ≡ Only A
 IsSaid means_a means_b (Some a) None said = said ≡ said_alone A a
 IsSaid means_a means_b None (Some b) said = said ≡ said_alone B b
 IsSaid means_a means_b (Some a) (Some b) said = IsSaidOfBoth means_a means_b a b said
+
+-- ---- readings
+
+-- the events of a key are compared, and neither refused nor alone
+abbrev pub is_compared : Said → Bool
+is_compared (Only side) = false
+is_compared (Refused side refusal) = false
+is_compared (Alike refusal) = false
+is_compared (Floating side) = true
+is_compared (Length other) = true
+is_compared (Compared verdict zones) = true
+
+-- How the events of a key that are compared are read, in A or in B, if they are at odds with RFC 5545.
+abbrev pub marks_said : Option Stated → Option Stated → Said → Marks
+marks_said (Some a) (Some b) said = if is_compared said then marks_of_both a.marks b.marks else no_marks
+marks_said a b said = no_marks
 
 -- ---- what can be printed
 
@@ -210,4 +281,5 @@ IsPrintableSaid (Only side) = ⊤
 IsPrintableSaid (Refused side refusal) = ⊤
 IsPrintableSaid (Alike refusal) = ⊤
 IsPrintableSaid (Floating side) = ⊤
+IsPrintableSaid (Length other) = ⊤
 IsPrintableSaid (Compared verdict zones) = IsPrintable verdict × ArePrintableZones zones

@@ -16,10 +16,10 @@ use Rattle.rr_seam.specs.declared.key.Key.{Key}
 use Rattle.rr_title.specs.Title.{title_text}
 use Rattle.rr_trip.specs.Grid.{HasPicture, IsPictureOf}
 use Rattle.rr_trip.specs.Judged.{IsFoldOf}
-use Rattle.rr_trip.specs.Printed.{asked_text, further_text, key_text, said_text, title_field}
+use Rattle.rr_trip.specs.Printed.{asked_text, further_text, key_text, said_line}
 use Rattle.rr_trip.specs.Report.{indexes_from, stated_in, title_by, title_if}
-use Rattle.rr_trip.specs.Pairs.{IsSaidOfJudged, days_b}
-use Rattle.rr_trip.specs.Said.{IsSaid}
+use Rattle.rr_trip.specs.Pairs.{IsSaidOfJudged, days_b, marks_of_judged}
+use Rattle.rr_trip.specs.Said.{IsSaid, marks_said}
 use Rattle.rr_trip.specs.Zoned.{Meaning, ZonedCalendar}
 use Rattle.rr_days.specs.Sequence.{sketch}
 use Rattle.rr_trip.specs.declared.pair.Judged.{Judged}
@@ -100,6 +100,7 @@ said_status (said.Only side) = Differs
 said_status (said.Refused side refusal) = Refused
 said_status (said.Alike refusal) = Equal
 said_status (said.Floating side) = Differs
+said_status (said.Length other) = Differs
 said_status (said.Compared Yes zones) = equal_status zones
 said_status (said.Compared (No kind at side) zones) = Differs
 
@@ -172,7 +173,7 @@ pub record IsShownBy (means_a means_b : Meaning) (judged : Judged) (title : Opti
   pub is_said : IsSaidOfJudged means_a means_b judged said
   pub tells : shown.said ≡ Some said
   pub status : shown.status ≡ said_status said
-  pub text : shown.text.items ≡ (said_text name said ++ title_field title ++ codes "\n") ++ more
+  pub text : shown.text.items ≡ said_line name said (marks_of_judged judged) title ++ more
   pub picture : IsPictureOfJudged judged more
 
 -- the first line that is shown says what is so of the events of these indexes in A and in B, with the title of the first of them if titles
@@ -183,7 +184,9 @@ pub record IsShownSaid (titles : Bool) (a b : ZonedCalendar) (is js : List ℕ) 
   pub is_said : IsSaid a.means b.means (stated_in a.stated is) (stated_in b.stated js) said
   pub tells : shown.said ≡ Some said
   pub status : shown.status ≡ said_status said
-  pub text : shown.text.items ≡ (said_text name said ++ title_field (title_if titles (title_by a.titles b.titles is js)) ++ codes "\n") ++ more
+  pub text :
+      shown.text.items
+      ≡ said_line name said (marks_said (stated_in a.stated is) (stated_in b.stated js) said) (title_if titles (title_by a.titles b.titles is js)) ++ more
   pub picture : IsPictureFor (stated_in a.stated is) (stated_in b.stated js) said more
 
 -- what is shown of the events of these indexes in A and in B, which have this name

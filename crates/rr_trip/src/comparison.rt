@@ -2,7 +2,7 @@
 ghost use Rattle.std.specs.Prelude.{◌≡◌, [], IfOk, MatchOption, OnOk};
 ghost use Rattle.rr_seam.specs.Stated.{calendar_by};
 ghost use Rattle.rr_trip.specs.Known.{AreKnown};
-ghost use Rattle.rr_trip.specs.Pairs.{IsSaidOfJudged, IsSound};
+ghost use Rattle.rr_trip.specs.Pairs.{IsSaidOfJudged, IsSound, marks_of_judged};
 ghost use Rattle.rr_trip.specs.Report.{AreLinesOf, IsLineOf, IsReport, IsRunAt, IsRunCount};
 ghost use Rattle.rr_trip.specs.Said.{IsPrintableSaid};
 ghost use Rattle.rr_trip.specs.Zoned.{zoned};
@@ -67,12 +67,17 @@ fn line_of<M: ZoneNames, N: ZoneNames>(
     ensures known { OnOk result
         (AreKnown (M.meaning names_a.now) (N.meaning names_b.now) known.new) }
     ensures line { IfOk result (λ line. (line.key ≡ key.now) × (line.title ≡ title)
-        × IsSaidOfJudged (M.meaning names_a.now) (N.meaning names_b.now) judged.now line.said
+        × (line.marks ≡ marks_of_judged judged.now) × IsSaidOfJudged (M.meaning names_a.now) (N.meaning names_b.now) judged.now line.said
         × IsPrintableSaid line.said) }
 {
     let key = copy_key(alloc, key)?;
     let said = said_of(alloc, known, names_a, names_b, judged)?;
-    Ok(ReportLine { key, said, title })
+    Ok(ReportLine {
+        key,
+        said,
+        marks: judged.marks(),
+        title,
+    })
 }
 
 // The line of a run, whose entries of A come first.

@@ -7,8 +7,9 @@ ghost use Rattle.rr_trip.specs.Judged.{AreDaysOfKey, IsFaultBy, IsFaultOf, IsFol
 use rr_check::{Checked, admit, check};
 use rr_days::Folded;
 use rr_fold::fold;
+use rr_length::KeyLengths;
 use rr_model::{Bytes, Fault, Series};
-use rr_seam::{EventFile, KeyFault, KeySeries, at_event};
+use rr_seam::{EventFile, KeyFault, KeySeries, Marks, at_event};
 use std::alloc::Global;
 
 // A series that no limit refuses, and its days.
@@ -42,6 +43,10 @@ pub struct KeyDays {
     pub days: Folded,
     /// The names of the zones in which its events state their moments.
     pub zones: Vec<Bytes>,
+    /// How long its occurrences are, if that can be told.
+    pub lengths: Option<KeyLengths>,
+    /// How it was read if it is at odds with RFC 5545.
+    pub marks: Marks,
 }
 
 /// The days of what the events of a key state. The refusal is the first by all limits.
@@ -55,6 +60,8 @@ pub fn days_of_key(alloc: Global, key: KeySeries) -> Result<KeyDays, KeyFault>
             series: made.series,
             days: made.days,
             zones: key.zones,
+            lengths: key.lengths,
+            marks: key.marks,
         }),
         Err(fault) => Err(at_event(key.place, fault)),
     }
@@ -69,6 +76,8 @@ pub fn key_days<F: EventFile>(
     ensures states { IfOk result (λ key. (F.stated file.now indexes.now).series ≡ Ok key.series) }
     ensures folded { IfOk result (λ key. IsFoldOf key.series (sketch key.days)) }
     ensures zones { IfOk result (λ key. key.zones.items ≡ (F.stated file.now indexes.now).zones) }
+    ensures lengths { IfOk result (λ key. key.lengths ≡ (F.stated file.now indexes.now).lengths) }
+    ensures marks { IfOk result (λ key. key.marks ≡ (F.stated file.now indexes.now).marks) }
     ensures refused { IfErr result (IsKeyFault (F.stated file.now indexes.now)) }
 {
     match file.key_series(alloc, indexes) {

@@ -1,5 +1,5 @@
 // Laws of what is said of a key, each the contract of a function that does nothing.
-ghost use Rattle.rr_trip.specs.Laws.{AlikeIsExact, EmptyHasNone};
+ghost use Rattle.rr_trip.specs.Laws.{AlikeIsExact, EmptyHasNone, LengthIsExact};
 
 use rr_model::first_refusal_is_one;
 
@@ -14,4 +14,10 @@ pub fn alike_is_exact()
 /// alone has and that is `equal` all the same has lost none.
 pub fn empty_has_none()
     ensures { EmptyHasNone }
+{}
+
+/// A key is said to have an occurrence of two lengths exactly where its local times are equal for ever, both calendars tell how long
+/// its occurrences are, and one of them has two lengths.
+pub fn length_is_exact()
+    ensures { LengthIsExact }
 {}

@@ -7,6 +7,7 @@ mod grid;
 mod judge;
 mod known;
 mod laws;
+mod lengths;
 mod name;
 mod pair;
 mod printing;
@@ -20,7 +21,7 @@ mod watch;
 mod zones;
 
 pub use comparison::compare;
-pub use laws::{alike_is_exact, empty_has_none};
+pub use laws::{alike_is_exact, empty_has_none, length_is_exact};
 pub use printing::{print, print_refusal};
 pub use report::{Counts, Report, ReportLine, Status, is_in_utc};
 pub use said::{Ahead, Said, Zones};

@@ -7,7 +7,7 @@ ghost use Rattle.rr_model.specs.Sets.Sketch.{StandsIn};
 ghost use Rattle.rr_model.specs.Sets.Verdict.{IsEqualVerdict};
 ghost use Rattle.rr_trip.specs.declared.pair.Judged.TheVariants.{Told};
 ghost use Rattle.rr_trip.specs.Judged.{IsFaultBy, IsFoldOf, IsKeyFault, IsKeyRefusal, IsRefused, IsWhether};
-ghost use Rattle.rr_trip.specs.Pairs.{IsBeside, IsFaultTold, IsJudged, IsJudgedBoth, IsJudgedWith, IsKept, days_b, days_beside, zones_beside};
+ghost use Rattle.rr_trip.specs.Pairs.{IsBeside, IsFaultTold, IsJudged, IsJudgedBoth, IsJudgedWith, IsKept, days_b, days_beside, lengths_beside, marks_beside, marks_of_judged, zones_beside};
 ghost use Rattle.rr_trip.specs.Report.{stated_in};
 ghost use Rattle.rr_trip.specs.Said.{IsAlikeTo, is_empty, said_alone, said_of_empty};
 ghost use Rattle.rr_seam.specs.Words.{are_same_words};
@@ -17,15 +17,23 @@ use crate::said::{Said, Zones};
 use crate::same::is_same_series;
 use rr_days::Folded;
 use rr_decide::equal;
+use rr_length::KeyLengths;
 use rr_model::{Bytes, NoMemory, Series, Side, Verdict, first_refusal_is_one};
-use rr_seam::{EventFile, KeyFault, KeyRefusal, KeySeries, are_same_words};
+use rr_seam::{EventFile, KeyFault, KeyRefusal, KeySeries, Marks, are_same_words};
 use std::alloc::Global;
 
 /// What B states of a key, beside the days of A.
 #[derive(Drop)]
 pub enum Beside {
-    /// The same series as A, with the same days, in zones of these names.
-    Same(Vec<Bytes>),
+    /// The same series as A, with the same days.
+    Same {
+        /// The names of its zones.
+        zones: Vec<Bytes>,
+        /// How long its occurrences are, if that can be told.
+        lengths: Option<KeyLengths>,
+        /// How it was read if it is at odds with RFC 5545.
+        marks: Marks,
+    },
     /// Another one.
     Other(KeyDays),
 }
@@ -55,7 +63,7 @@ fn days_beside<'a>(a: &'a Folded, b: &'a Beside) -> &'a Folded
     ensures { result.now ≡ days_beside a.now b.now }
 {
     match b {
-        Beside::Same(_) => a,
+        Beside::Same { .. } => a,
         Beside::Other(b) => &b.days,
     }
 }
@@ -73,8 +81,40 @@ impl KeyPair {
         ensures { result.now ≡ zones_beside self.now.b }
     {
         match &self.b {
-            Beside::Same(zones) => zones.as_slice(),
+            Beside::Same { zones, .. } => zones.as_slice(),
             Beside::Other(b) => b.zones.as_slice(),
+        }
+    }
+
+    /// How long the occurrences of B are, if that can be told.
+    pub fn lengths_b(&self) -> &Option<KeyLengths>
+        ensures { result.now ≡ lengths_beside self.now.b }
+    {
+        match &self.b {
+            Beside::Same { lengths, .. } => lengths,
+            Beside::Other(b) => &b.lengths,
+        }
+    }
+
+    // How B was read.
+    fn marks_b(&self) -> Marks
+        ensures { result ≡ marks_beside self.now.b }
+    {
+        match &self.b {
+            Beside::Same { marks, .. } => *marks,
+            Beside::Other(b) => b.marks,
+        }
+    }
+}
+
+impl Judged {
+    /// How the events of the key were read in A or in B, if they are compared and at odds with RFC 5545.
+    pub fn marks(&self) -> Marks
+        ensures { result ≡ marks_of_judged self.now }
+    {
+        match self {
+            Judged::Told(_) => Marks::none(),
+            Judged::Compared(pair) => pair.a.marks.or(pair.marks_b()),
         }
     }
 }
@@ -87,7 +127,11 @@ fn kept_beside(alloc: Global, a: &KeyDays, b: KeySeries) -> Result<Beside, KeyFa
     ensures refused { IfErr result (IsFaultBy b.place b.series) }
 {
     if is_same_series(a.series.series(), &b.series) {
-        return Ok(Beside::Same(b.zones));
+        return Ok(Beside::Same {
+            zones: b.zones,
+            lengths: b.lengths,
+            marks: b.marks,
+        });
     }
     match days_of_key(alloc, b) {
         Ok(b) => Ok(Beside::Other(b)),
@@ -119,7 +163,7 @@ fn local_verdict(a: &KeyDays, b: &Beside) -> Verdict
     ensures day { NamesUpToMaxDay result }
 {
     match b {
-        Beside::Same(_) => Verdict::Yes,
+        Beside::Same { .. } => Verdict::Yes,
         Beside::Other(b) => equal(&a.days, &b.days),
     }
 }

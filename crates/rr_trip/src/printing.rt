@@ -1,16 +1,18 @@
 // The lines of a report as they are printed.
-ghost use Rattle.std.specs.Prelude.{◌≡◌, ◌<◌, ◌++◌, All, IfOk, OnOk};
+ghost use Rattle.std.specs.Prelude.{◌≡◌, ◌<◌, ◌++◌, All, IfOk, OnOk, codes};
 ghost use Rattle.std.specs.Fmt.{decimal};
+ghost use Rattle.rr_length.specs.Length.{length_text};
 ghost use Rattle.rr_text.specs.Printed.{IsPrintable};
-ghost use Rattle.rr_trip.specs.Printed.{IsPrintableFurther, asked_byte, asked_text, counts_text, event_refusal_text, file_refusal_line, further_text, has_number, is_difference, key_refusal_text, key_text, last_count_text, line_text, lines_text, report_text, said_text, title_field, uid_byte, uid_text};
+ghost use Rattle.rr_trip.specs.Printed.{IsPrintableFurther, asked_byte, asked_text, counts_text, event_refusal_text, file_refusal_line, further_text, has_number, is_difference, key_refusal_text, key_text, last_count_text, line_text, lines_text, marks_text, report_text, said_line, said_text, title_field, uid_byte, uid_text, word_if};
 ghost use Rattle.rr_trip.specs.Said.{IsPrintableSaid};
 
 use crate::report::{Counts, Report, ReportLine, is_equal, is_unsure};
 use crate::said::Said;
 use crate::verdict::push_compared;
 use rr_differ::Further;
+use rr_length::{OtherLength, push_length};
 use rr_model::{Bytes, NoMemory, Refusal, Side};
-use rr_seam::{FileRefusal, Key, KeyRefusal};
+use rr_seam::{FileRefusal, Key, KeyRefusal, Marks};
 use rr_text::{push_extended, push_unsigned, side_text};
 use rr_title::{push_escaped, push_title};
 use std::alloc::Global;
@@ -133,6 +135,17 @@ fn push_key_refusal(alloc: Global, out: &mut Vec<u8>, refusal: KeyRefusal) -> Re
     }
 }
 
+// The two lengths of an occurrence.
+fn push_lengths(out: &mut Vec<u8>, other: OtherLength) -> Result<(), NoMemory>
+    ensures { OnOk result (out.new.items
+        ≡ out.old.items ++ codes " " ++ length_text other.a ++ codes " " ++ length_text other.b) }
+{
+    push(out, b" ")?;
+    push_length(out, other.a)?;
+    push(out, b" ")?;
+    push_length(out, other.b)
+}
+
 /// Appends what is said of a key whose printed text is `name`: the line of the report without its title and its line feed.
 pub fn push_said(alloc: Global, out: &mut Vec<u8>, name: &[u8], said: Said) -> Result<(), NoMemory>
     requires { IsPrintableSaid said }
@@ -165,12 +178,36 @@ pub fn push_said(alloc: Global, out: &mut Vec<u8>, name: &[u8], said: Said) -> R
             push(out, b" floating ")?;
             push(out, side_text(side).as_bytes())
         }
+        Said::Length(other) => {
+            push(out, b"length ")?;
+            push(out, name)?;
+            push_lengths(out, other)
+        }
         Said::Compared { verdict, zones } => push_compared(out, name, verdict, zones),
     }
 }
 
-/// Appends a title as the last field of a line, between quotes; nothing if there is none.
-pub fn push_title_field(out: &mut Vec<u8>, title: &Option<Bytes>) -> Result<(), NoMemory>
+// A word behind a line, if it is said.
+fn push_word(out: &mut Vec<u8>, is_said: bool, word: &[u8]) -> Result<(), NoMemory>
+    ensures { OnOk result (out.new.items ≡ out.old.items ++ word_if is_said word.now) }
+{
+    if is_said {
+        return push(out, word);
+    }
+    Ok(())
+}
+
+// Appends how the events of a key are read, as the last words of its line: ` until`, ` start`, ` day`.
+fn push_marks(out: &mut Vec<u8>, marks: Marks) -> Result<(), NoMemory>
+    ensures { OnOk result (out.new.items ≡ out.old.items ++ marks_text marks) }
+{
+    push_word(out, marks.until, b" until")?;
+    push_word(out, marks.start, b" start")?;
+    push_word(out, marks.day, b" day")
+}
+
+// Appends a title as the last field of a line, between quotes; nothing if there is none.
+fn push_title_field(out: &mut Vec<u8>, title: &Option<Bytes>) -> Result<(), NoMemory>
     ensures { OnOk result (out.new.items ≡ out.old.items ++ title_field title.now) }
 {
     match title {
@@ -208,6 +245,26 @@ fn is_difference(said: Said) -> bool
     !is_equal(said) || is_unsure(said)
 }
 
+/// Appends the whole line of a key whose printed text is `name`: what is said of it, how its events are read, its title if there is
+/// one, and a line feed.
+#[tactic(auto, unfolding(crate::specs::Printed::said_line))]
+pub fn push_said_line(
+    alloc: Global,
+    out: &mut Vec<u8>,
+    name: &[u8],
+    said: Said,
+    marks: Marks,
+    title: &Option<Bytes>,
+) -> Result<(), NoMemory>
+    requires { IsPrintableSaid said }
+    ensures { OnOk result (out.new.items ≡ out.old.items ++ said_line name.now said marks title.now) }
+{
+    push_said(alloc, out, name, said)?;
+    push_marks(out, marks)?;
+    push_title_field(out, title)?;
+    push(out, b"\n")
+}
+
 // The line of a key, or nothing where it is left out.
 fn push_line(
     alloc: Global,
@@ -221,9 +278,7 @@ fn push_line(
     if !only_differences || is_difference(line.said) {
         let mut name = Vec::new(alloc);
         push_key(&mut name, &line.key)?;
-        push_said(alloc, out, &name, line.said)?;
-        push_title_field(out, &line.title)?;
-        return push(out, b"\n");
+        return push_said_line(alloc, out, &name, line.said, line.marks, &line.title);
     }
     Ok(())
 }
@@ -267,7 +322,7 @@ fn push_counts(out: &mut Vec<u8>, counts: Counts) -> Result<(), NoMemory>
 }
 
 /// The report as it is printed: a line for each key, or, with `only_differences`, for each that is not equal or of which nobody
-/// can tell, with its title if titles were asked for, and a last line with the counts of all.
+/// can tell, with how its events were read and its title if titles were asked for, and a last line with the counts of all.
 #[tactic(auto, unfolding(crate::specs::Printed::report_text))]
 pub fn print(alloc: Global, only_differences: bool, report: &Report) -> Result<Vec<u8>, NoMemory>
     requires { All (λ line. IsPrintableSaid line.said) report.now.lines.items }

@@ -4,7 +4,7 @@ ghost use Rattle.rr_trip.specs.Counts.{count_said, counts_of, differs, is_alike,
 
 use crate::said::{Said, Zones};
 use rr_model::{Bytes, Refusal, Side, Verdict};
-use rr_seam::{Key, KeyRefusal};
+use rr_seam::{Key, KeyRefusal, Marks};
 
 /// What is said of one key.
 #[derive(Drop)]
@@ -13,6 +13,8 @@ pub struct ReportLine {
     pub key: Key,
     /// What is said of it.
     pub said: Said,
+    /// How its events are read in A or in B, if they are compared, and at odds with RFC 5545.
+    pub marks: Marks,
     /// The title of its first event in A, otherwise in B, if titles are asked for.
     pub title: Option<Bytes>,
 }
@@ -31,7 +33,7 @@ pub struct Counts {
     pub events: usize,
     /// Those with equal occurrences.
     pub equal: usize,
-    /// Those with an occurrence that one calendar alone has, or with a zone in one alone.
+    /// Those with an occurrence that one calendar alone has or that is of two lengths, or with a zone in one alone.
     pub differs: usize,
     /// Those that A alone has.
     pub only_a: usize,
@@ -50,7 +52,7 @@ pub struct Counts {
 pub enum Status {
     /// All keys are equal or alike.
     Equal,
-    /// A key differs, or stands in one calendar alone.
+    /// A key differs, has an occurrence of two lengths, or stands in one calendar alone.
     Differs,
     /// Neither, but a key or a file is refused, or nobody can tell of one that is equal.
     Refused,
@@ -75,6 +77,7 @@ fn differs(said: Said) -> bool
     matches!(
         said,
         Said::Floating(_)
+            | Said::Length(_)
             | Said::Compared {
                 verdict: Verdict::No { .. },
                 ..
@@ -137,7 +140,7 @@ pub fn is_in_utc(said: Said) -> bool
 {
     match said {
         Said::Refused { refusal, .. } | Said::Alike(refusal) => is_utc(refusal),
-        Said::Only(_) | Said::Floating(_) | Said::Compared { .. } => false,
+        Said::Only(_) | Said::Floating(_) | Said::Length(_) | Said::Compared { .. } => false,
     }
 }
 

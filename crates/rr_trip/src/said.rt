@@ -1,4 +1,5 @@
 // What is said of a key.
+use rr_length::OtherLength;
 use rr_model::{Side, Verdict};
 use rr_seam::KeyRefusal;
 
@@ -43,6 +44,8 @@ pub enum Said {
     Alike(KeyRefusal),
     /// The events of the key state local times without a zone in this calendar, and a zone or UTC in the other.
     Floating(Side),
+    /// Both have equal local times, for all years to come, but an occurrence is of another length in B than in A.
+    Length(OtherLength),
     /// Both are compared, for all years to come.
     Compared {
         /// Whether they have equal occurrences, otherwise the first that one of them alone has, as its local time.

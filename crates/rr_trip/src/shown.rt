@@ -10,7 +10,7 @@ use crate::grid::picture;
 use crate::known::KnownZones;
 use crate::name::{are_none, indexes_named, shown_name};
 use crate::pair::{Judged, KeyPair, judge_key};
-use crate::printing::{push, push_asked, push_further, push_said, push_title_field};
+use crate::printing::{push, push_asked, push_further, push_said_line};
 use crate::report::Status;
 use crate::said::{Said, Zones};
 use crate::title::title_of;
@@ -47,7 +47,7 @@ fn said_status(said: Said) -> Status
     ensures { result ≡ said_status said }
 {
     match said {
-        Said::Only(_) | Said::Floating(_) => Status::Differs,
+        Said::Only(_) | Said::Floating(_) | Said::Length(_) => Status::Differs,
         Said::Refused { .. } => Status::Refused,
         Said::Alike(_) => Status::Equal,
         Said::Compared { verdict, zones } => match verdict {
@@ -126,9 +126,7 @@ fn show_key<M: ZoneNames, N: ZoneNames>(
     let mut known = KnownZones::new(alloc);
     let said = said_of(alloc, &mut known, names_a, names_b, judged)?;
     let mut text = Vec::new(alloc);
-    push_said(alloc, &mut text, name, said)?;
-    push_title_field(&mut text, title)?;
-    push(&mut text, b"\n")?;
+    push_said_line(alloc, &mut text, name, said, judged.marks(), title)?;
     let picture = picture_of(alloc, judged)?;
     push(&mut text, &picture)?;
     Ok(Shown {

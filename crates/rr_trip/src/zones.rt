@@ -13,13 +13,14 @@ ghost use Rattle.rr_true.specs.Occurrences.{TrueOf};
 ghost use Rattle.rr_true.specs.Changes.{IsBelowDay, offset_of};
 ghost use Rattle.rr_utc.specs.Walks.{NamesNear};
 ghost use Rattle.rr_trip.specs.Known.{AreKnown, AreZonesApart};
-ghost use Rattle.rr_trip.specs.Pairs.{AreOfMoments, IsPair, IsSaidOfJudged, IsSaidOfPair, IsSound, days_b, have_moments, series_b};
+ghost use Rattle.rr_trip.specs.Pairs.{AreOfMoments, IsPair, IsSaidOfJudged, IsSaidOfPair, IsSaidOfTimes, IsSound, days_b, have_moments, series_b};
 ghost use Rattle.rr_trip.specs.Readings.{are_empty, is_floating, one_name, reading_by, reading_of_names, reading_without};
 ghost use Rattle.rr_trip.specs.Said.{ArePrintableZones, HasSome, IsComparedLocally, IsPrintableSaid, IsSaidBy, IsSaidByMoments, IsSaidFloating, ahead_by, zone_on};
 ghost use Rattle.rr_trip.specs.Zoned.{meaning_of};
 ghost use Rattle.rr_trip.specs.Zones.{IsSaidAt, is_yes, zone_in};
 
 use crate::known::{KnownZones, NamedZone};
+use crate::lengths::said_behind;
 use crate::pair::{Judged, KeyPair};
 use crate::said::{Ahead, Said, Zones};
 use rr_model::{Bytes, Kind, NoMemory, Side, Verdict, day_part};
@@ -367,7 +368,32 @@ fn have_moments(pair: &KeyPair) -> bool
     pair.a.days.kind() == Kind::Moments && pair.days_b().kind() == Kind::Moments
 }
 
-// What is said of the days of a key.
+// What is said of the times of a key.
+fn said_of_times<M: ZoneNames, N: ZoneNames>(
+    alloc: Global,
+    known: &mut KnownZones,
+    names_a: &M,
+    names_b: &N,
+    pair: &KeyPair,
+) -> Result<Said, NoMemory>
+    requires known { AreKnown (M.meaning names_a.now) (N.meaning names_b.now) known.old }
+    requires pair { IsPair pair.now }
+    ensures known { OnOk result
+        (AreKnown (M.meaning names_a.now) (N.meaning names_b.now) known.new) }
+    ensures said { IfOk result
+        (IsSaidOfTimes (M.meaning names_a.now) (N.meaning names_b.now) pair.now) }
+    ensures printable { IfOk result IsPrintableSaid }
+{
+    if !have_moments(pair) {
+        return Ok(said_locally(pair, Zones::Local));
+    }
+    match (one_name(&pair.a.zones), one_name(pair.zones_b())) {
+        (Some(a), Some(b)) => said_of_names(alloc, known, names_a, names_b, pair, a, b),
+        (None, _) | (_, None) => Ok(said_locally(pair, Zones::Unknown)),
+    }
+}
+
+// What is said of the days of a key, and of how long its occurrences are.
 fn said_of_pair<M: ZoneNames, N: ZoneNames>(
     alloc: Global,
     known: &mut KnownZones,
@@ -383,13 +409,8 @@ fn said_of_pair<M: ZoneNames, N: ZoneNames>(
         (IsSaidOfPair (M.meaning names_a.now) (N.meaning names_b.now) pair.now) }
     ensures printable { IfOk result IsPrintableSaid }
 {
-    if !have_moments(pair) {
-        return Ok(said_locally(pair, Zones::Local));
-    }
-    match (one_name(&pair.a.zones), one_name(pair.zones_b())) {
-        (Some(a), Some(b)) => said_of_names(alloc, known, names_a, names_b, pair, a, b),
-        (None, _) | (_, None) => Ok(said_locally(pair, Zones::Unknown)),
-    }
+    let times = said_of_times(alloc, known, names_a, names_b, pair)?;
+    said_behind(alloc, pair, times)
 }
 
 /// What is said of a key, by what is known of it before its zones are looked at.

@@ -5,14 +5,22 @@ use Rattle.rr_trip.proofs.judge.key_days.Goals as goal
 
 pub returns-in-Ok-clause-states : goal.returns-in-Ok-clause-states
 returns-in-Ok-clause-states g c =
-    IfOk-weaker c.days_of_key.result _ _ (λ made h. c.in-Ok.ensures.states ∙ ap Ok (sym h.0)) c.days_of_key.ensures.accepted
+    IfOk-weaker c.days_of_key.result _ _ (λ made h. c.in-Ok.ensures.states ∙ ap Ok (sym h.series)) c.days_of_key.ensures.accepted
 
 pub returns-in-Ok-clause-folded : goal.returns-in-Ok-clause-folded
-returns-in-Ok-clause-folded g c = IfOk-weaker c.days_of_key.result _ _ (λ made h. h.2) c.days_of_key.ensures.accepted
+returns-in-Ok-clause-folded g c = IfOk-weaker c.days_of_key.result _ _ (λ made h. h.folded) c.days_of_key.ensures.accepted
 
 pub returns-in-Ok-clause-zones : goal.returns-in-Ok-clause-zones
 returns-in-Ok-clause-zones g c =
-    IfOk-weaker c.days_of_key.result _ _ (λ made h. ap (λ zs. zs.items) h.1 ∙ c.in-Ok.ensures.zones) c.days_of_key.ensures.accepted
+    IfOk-weaker c.days_of_key.result _ _ (λ made h. ap (λ zs. zs.items) h.zones ∙ c.in-Ok.ensures.zones) c.days_of_key.ensures.accepted
+
+pub returns-in-Ok-clause-lengths : goal.returns-in-Ok-clause-lengths
+returns-in-Ok-clause-lengths g c =
+    IfOk-weaker c.days_of_key.result _ _ (λ made h. h.lengths ∙ c.in-Ok.ensures.lengths) c.days_of_key.ensures.accepted
+
+pub returns-in-Ok-clause-marks : goal.returns-in-Ok-clause-marks
+returns-in-Ok-clause-marks g c =
+    IfOk-weaker c.days_of_key.result _ _ (λ made h. h.marks ∙ c.in-Ok.ensures.marks) c.days_of_key.ensures.accepted
 
 pub returns-in-Ok-clause-refused : goal.returns-in-Ok-clause-refused
 returns-in-Ok-clause-refused g c =
