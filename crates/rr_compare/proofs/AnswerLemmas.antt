@@ -11,7 +11,7 @@ use Rattle.rr_compare.specs.Answer.{Answer, IsCompared, IsComparedWith, IsFaultA
 use Rattle.rr_trip.specs.Zoned.{ZonedCalendar, zoned}
 use Rattle.rr_compare.specs.Calendars.{calendar_in, with_meaning}
 use Rattle.rr_compare.specs.Words.{Request}
-use Rattle.rr_compare.specs.declared.file.AnyFile.{AnyFile}
+use Rattle.rr_compare.specs.declared.file.ReadFile.{ReadFile}
 
 -- ---- a file that is read
 
@@ -45,13 +45,13 @@ module _ (request : Request) (wanted : Result Calendar FileRefusal) (means : Lis
       → IsComparedWith request a file answer
   read_b a b is h = subst (λ (w : Result ZonedCalendar FileRefusal). IsComparedWith request a w answer) (sym (is_zoned b is)) h
 
-  pub refused_a : (b : Result ZonedCalendar FileRefusal) (fault : FileFault) → AnswersCalendar {F = AnyFile} calendar_in wanted (Err fault)
+  pub refused_a : (b : Result ZonedCalendar FileRefusal) (fault : FileFault) → AnswersCalendar {F = ReadFile} calendar_in wanted (Err fault)
       → IsFaultAnswer A fault answer → IsCompared request file b answer
   refused_a b (file_fault.Refused r) is h =
       subst (λ (w : Result ZonedCalendar FileRefusal). IsCompared request w b answer) (sym (is_refused r is)) h
   refused_a b file_fault.NoMemory is h = absurd h
 
-  pub refused_b : (a : ZonedCalendar) (fault : FileFault) → AnswersCalendar {F = AnyFile} calendar_in wanted (Err fault)
+  pub refused_b : (a : ZonedCalendar) (fault : FileFault) → AnswersCalendar {F = ReadFile} calendar_in wanted (Err fault)
       → IsFaultAnswer B fault answer → IsComparedWith request a file answer
   refused_b a (file_fault.Refused r) is h =
       subst (λ (w : Result ZonedCalendar FileRefusal). IsComparedWith request a w answer) (sym (is_refused r is)) h

@@ -1,8 +1,9 @@
 -- The calendar that a file is, and what the names of its zones mean.
-use Rattle.std.specs.Prelude.{ℕ, nat_lt, if◌then◌else◌, ℤ, List, [], ◌∷◌, length, Option, Some, None, Result, Ok, Err}
+use Rattle.std.specs.Prelude.{ℕ, nat_lt, Bool, not, if◌then◌else◌, ℤ, List, [], ◌∷◌, length, Option, Some, None, Result, Ok, Err}
 use Rattle.rr_events.specs.RawLines.{RawLine}
 use Rattle.rr_icalfile.specs.Calendar.{calendar as ical_calendar, calendar_in as ical_calendar_in}
 use Rattle.rr_vcalfile.specs.Files.{calendar as vcal_calendar, calendar_in as vcal_calendar_in}
+use Rattle.rr_lenient.specs.Stated.{stated_if}
 use Rattle.rr_seam.specs.Stated.{Calendar, Stated, calendar_by}
 use Rattle.rr_seam.specs.declared.file.FileRefusal.{FileRefusal}
 use Rattle.rr_seam.specs.declared.file.TheConstants.{MAX_FILE}
@@ -15,6 +16,7 @@ use Rattle.rr_compare.specs.Names.{meaning_by}
 use Rattle.rr_compare.specs.Turned.{calendar as graph_calendar, calendar_in as graph_calendar_in}
 use Rattle.rr_compare.specs.Words.{Request}
 use Rattle.rr_compare.specs.declared.file.AnyFile.{AnyFile}
+use Rattle.rr_compare.specs.declared.file.ReadFile.{ReadFile}
 use Rattle.rr_compare.specs.declared.file.AnyFile.TheVariants as file
 use Rattle.rr_compare.specs.declared.operand.Language.{Language}
 use Rattle.rr_compare.specs.declared.operand.Language.TheVariants.{Ics, Graph, Vcal}
@@ -39,18 +41,43 @@ stated_in f indexes = (own_calendar f).stated indexes
 abbrev pub titles_in : AnyFile → ℕ → List ℕ
 titles_in f index = (own_calendar f).titles index
 
--- the calendar that it is
-abbrev pub calendar_in : AnyFile → Calendar
-calendar_in f = calendar_by (keys_in f) (stated_in f) (titles_in f)
+-- a calendar whose series that are at odds with RFC 5545 are read as calendars show them, if that is asked for
+abbrev pub calendar_read : Bool → Calendar → Calendar
+calendar_read lenient calendar = calendar_by calendar.keys (λ indexes. stated_if lenient (calendar.stated indexes)) calendar.titles
+
+-- the calendar that a file is, which was read so
+abbrev pub calendar_in : ReadFile → Calendar
+calendar_in f = calendar_read f.is_lenient (own_calendar f.file)
+
+-- the keys of its events
+abbrev pub keys_read : ReadFile → List Key
+keys_read f = (calendar_in f).keys
+
+-- what its events of these indexes state together
+abbrev pub stated_read : ReadFile → List ℕ → Stated
+stated_read f indexes = (calendar_in f).stated indexes
+
+-- the title of its event of this index
+abbrev pub titles_read : ReadFile → ℕ → List ℕ
+titles_read f index = (calendar_in f).titles index
 
 -- ---- the bytes of a file
 
 -- the calendar that a text is in a language, beside what the names of its zones mean and a stated offset, or why it is refused; a list of Graph
 -- defines no zone, and its moments of UTC are turned by what the names mean
-abbrev pub calendar_of : Language → Meaning → Option ℤ → List ℕ → Result Calendar FileRefusal
-calendar_of Ics means offset text = ical_calendar offset text
-calendar_of Graph means offset text = graph_calendar means offset text
-calendar_of Vcal means offset text = vcal_calendar offset text
+abbrev pub own_calendar_of : Language → Bool → Meaning → Option ℤ → List ℕ → Result Calendar FileRefusal
+own_calendar_of Ics lenient means offset text = ical_calendar offset lenient text
+own_calendar_of Graph lenient means offset text = graph_calendar means offset text
+own_calendar_of Vcal lenient means offset text = vcal_calendar offset text
+
+-- the calendar, read leniently or not, unless its file is refused
+abbrev pub read_if : Bool → Result Calendar FileRefusal → Result Calendar FileRefusal
+read_if lenient (Ok calendar) = Ok (calendar_read lenient calendar)
+read_if lenient (Err refusal) = Err refusal
+
+-- the calendar that a text is, whose series that are at odds with RFC 5545 are read as calendars show them, if that is asked for
+abbrev pub calendar_of : Language → Bool → Meaning → Option ℤ → List ℕ → Result Calendar FileRefusal
+calendar_of language lenient means offset text = read_if lenient (own_calendar_of language lenient means offset text)
 
 -- a file of iCalendar as it is read: with its moments of UTC in local time of the zones that it defines, unless it has more bytes than a
 -- file may have
@@ -69,8 +96,8 @@ offset_by (Some own) both = Some own
 offset_by None both = both
 
 -- the calendar that a file is in a language, or why it is refused
-abbrev pub calendar_as : Language → Meaning → Option ℤ → List ℕ → Result Calendar FileRefusal
-calendar_as language means offset bytes = calendar_of language means offset (text_in language bytes)
+abbrev pub calendar_as : Language → Bool → Meaning → Option ℤ → List ℕ → Result Calendar FileRefusal
+calendar_as language lenient means offset bytes = calendar_of language lenient means offset (text_in language bytes)
 
 -- ---- the zones that files define
 
@@ -110,23 +137,25 @@ with_meaning (Ok calendar) means = Ok (zoned calendar means)
 with_meaning (Err refusal) means = Err refusal
 
 -- the calendar that a file in a language is, beside a stated offset, if the names of its zones mean this
-abbrev pub zoned_by : Language → Meaning → Option ℤ → List ℕ → Result ZonedCalendar FileRefusal
-zoned_by language means offset bytes = with_meaning (calendar_as language means offset bytes) means
+abbrev pub zoned_by : Language → Bool → Meaning → Option ℤ → List ℕ → Result ZonedCalendar FileRefusal
+zoned_by language lenient means offset bytes = with_meaning (calendar_as language lenient means offset bytes) means
 
 -- the calendar that a file in a language is, by the zones of these files and its stated offset
-abbrev pub zoned_as : Language → Option ℤ → List (List (List RawLine)) → List ℕ → Result ZonedCalendar FileRefusal
-zoned_as language offset files bytes = zoned_by language (meaning_by files offset) offset bytes
+abbrev pub zoned_as : Language → Bool → Option ℤ → List (List (List RawLine)) → List ℕ → Result ZonedCalendar FileRefusal
+zoned_as language lenient offset files bytes = zoned_by language lenient (meaning_by files offset) offset bytes
 
 -- The calendar A, each file in its language: a name means what the own file defines, otherwise what the other one does, otherwise what the file of
 -- further zones does.
 abbrev pub old_as : Language → Language → Request → Texts → Result ZonedCalendar FileRefusal
 old_as a b request texts =
-    zoned_as a (offset_by request.old.offset request.offset) (zones_as a texts.old ∷ zones_as b texts.new ∷ further_zones texts.zones ∷ []) texts.old
+    zoned_as a (not request.strict) (offset_by request.old.offset request.offset)
+    (zones_as a texts.old ∷ zones_as b texts.new ∷ further_zones texts.zones ∷ []) texts.old
 
 -- The calendar B, likewise: its own file comes before A.
 abbrev pub new_as : Language → Language → Request → Texts → Result ZonedCalendar FileRefusal
 new_as a b request texts =
-    zoned_as b (offset_by request.new.offset request.offset) (zones_as b texts.new ∷ zones_as a texts.old ∷ further_zones texts.zones ∷ []) texts.new
+    zoned_as b (not request.strict) (offset_by request.new.offset request.offset)
+    (zones_as b texts.new ∷ zones_as a texts.old ∷ further_zones texts.zones ∷ []) texts.new
 
 -- the language of the file A
 abbrev pub old_language : Request → Texts → Language

@@ -7,7 +7,7 @@ use Rattle.rr_compare.specs.Calendars.{Texts, calendar_in, calendar_of, with_mea
 use Rattle.rr_compare.specs.Names.{meaning_of_names}
 use Rattle.rr_compare.specs.declared.answers.CalendarText.{CalendarText}
 use Rattle.rr_compare.specs.declared.answers.Outcome.{Outcome}
-use Rattle.rr_compare.specs.declared.file.AnyFile.{AnyFile}
+use Rattle.rr_compare.specs.declared.file.ReadFile.{ReadFile}
 use Rattle.rr_compare.specs.declared.names.Names.{Names}
 use Rattle.rr_compare.specs.declared.texts.Texts.{Texts as GivenTexts}
 
@@ -22,8 +22,8 @@ texts_in texts = record { old = texts.old.now; new = texts.new.now; zones = text
 -- the calendar that a text is, with what the names of its zones mean, or why it is refused
 abbrev pub text_calendar : CalendarText → Result ZonedCalendar FileRefusal
 text_calendar text =
-    with_meaning (calendar_of text.language (meaning_of_names text.names) text.names.offset text.bytes.now) (meaning_of_names text.names)
+    with_meaning (calendar_of text.language text.is_lenient (meaning_of_names text.names) text.names.offset text.bytes.now) (meaning_of_names text.names)
 
 -- the calendar that was read, with what the names of its zones mean
-abbrev pub zoned_in : AnyFile → Names → ZonedCalendar
+abbrev pub zoned_in : ReadFile → Names → ZonedCalendar
 zoned_in file names = zoned (calendar_in file) (meaning_of_names names)

@@ -18,6 +18,8 @@ turned_stated is_turned stated = record {
   place = stated.place;
   zones = map (turned_zone is_turned) stated.zones;
   words = stated.words;
+  lengths = stated.lengths;
+  marks = stated.marks;
 }
 
 -- a calendar with these zones

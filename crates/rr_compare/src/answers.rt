@@ -7,7 +7,7 @@ ghost use Rattle.rr_compare.specs.Parsed.{asked_in, asked_of_words, request_in};
 ghost use Rattle.rr_compare.specs.Words.{of_two_texts};
 ghost use Rattle.rr_trip.specs.Said.{IsPrintableSaid};
 
-use crate::file::AnyFile;
+use crate::file::ReadFile;
 use crate::language::language_by;
 use crate::names::Names;
 use crate::operand::Language;
@@ -65,9 +65,9 @@ fn comparison_outcome<W: Watch>(
     alloc: Global,
     only_differences: bool,
     titles: bool,
-    a: &AnyFile,
+    a: &ReadFile,
     names_a: &Names,
-    b: &AnyFile,
+    b: &ReadFile,
     names_b: &Names,
     watch: &mut W,
 ) -> Result<Outcome, NoMemory>
@@ -93,9 +93,9 @@ fn name_outcome(
     alloc: Global,
     name: &str,
     titles: bool,
-    a: &AnyFile,
+    a: &ReadFile,
     names_a: &Names,
-    b: &AnyFile,
+    b: &ReadFile,
     names_b: &Names,
 ) -> Result<Outcome, NoMemory>
     ensures { IfOk result (λ x. IsNamed name.now titles (zoned_in a.now names_a.now)
@@ -113,9 +113,9 @@ fn name_outcome(
 fn outcome_of_both<W: Watch>(
     alloc: Global,
     request: Request,
-    a: &AnyFile,
+    a: &ReadFile,
     names_a: &Names,
-    b: &AnyFile,
+    b: &ReadFile,
     names_b: &Names,
     watch: &mut W,
 ) -> Result<Outcome, NoMemory>
@@ -160,6 +160,7 @@ fn refusal_outcome(alloc: Global, side: Side, fault: FileFault) -> Result<Outcom
 #[derive(Clone, Copy)]
 struct CalendarText<'t, 'n, 'a> {
     language: Language,
+    is_lenient: bool,
     bytes: &'t [u8],
     names: Names<'n, 'a>,
 }
@@ -168,7 +169,7 @@ struct CalendarText<'t, 'n, 'a> {
 fn outcome_beside<W: Watch>(
     alloc: Global,
     request: Request,
-    a: &AnyFile,
+    a: &ReadFile,
     names_a: &Names,
     new: CalendarText,
     watch: &mut W,
@@ -176,7 +177,7 @@ fn outcome_beside<W: Watch>(
     ensures { IfOk result (λ x. IsComparedWith (request_in request.entry)
         (zoned_in a.now names_a.now) (text_calendar new.entry) (outcome_is x)) }
 {
-    match AnyFile::read(alloc, new.language, &new.names, new.bytes) {
+    match ReadFile::read(alloc, new.language, new.is_lenient, &new.names, new.bytes) {
         Ok(b) => outcome_of_both(alloc, request, a, names_a, &b, &new.names, watch),
         Err(fault) => refusal_outcome(alloc, Side::B, fault),
     }
@@ -193,7 +194,7 @@ fn compared_outcome<W: Watch>(
     ensures { IfOk result (λ x. IsCompared (request_in request.entry) (text_calendar old.entry)
         (text_calendar new.entry) (outcome_is x)) }
 {
-    match AnyFile::read(alloc, old.language, &old.names, old.bytes) {
+    match ReadFile::read(alloc, old.language, old.is_lenient, &old.names, old.bytes) {
         Ok(a) => outcome_beside(alloc, request, &a, &old.names, new, watch),
         Err(fault) => refusal_outcome(alloc, Side::A, fault),
     }
@@ -228,6 +229,7 @@ fn outcome_in<W: Watch>(
     let zones = zones_of(alloc, a, b, texts)?;
     let a = CalendarText {
         language: a,
+        is_lenient: !request.strict,
         bytes: &old,
         names: Names {
             own: &zones.old,
@@ -238,6 +240,7 @@ fn outcome_in<W: Watch>(
     };
     let b = CalendarText {
         language: b,
+        is_lenient: !request.strict,
         bytes: &new,
         names: Names {
             own: &zones.new,

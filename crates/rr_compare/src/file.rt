@@ -1,16 +1,20 @@
 // A file of either calendar, in its language.
 ghost use Rattle.std.specs.Prelude.{◌≡◌};
-ghost use Rattle.rr_compare.specs.Calendars.{calendar_in, calendar_of};
+ghost use Rattle.rr_compare.specs.Calendars.{calendar_in, calendar_of, own_calendar, own_calendar_of};
 ghost use Rattle.rr_compare.specs.Names.{meaning_of_names};
 ghost use Rattle.rr_compare.specs.Turned.{calendar as graph_calendar};
 ghost use Rattle.rr_icalfile.specs.Calendar.{calendar as ical_calendar};
 ghost use Rattle.rr_vcalfile.specs.Files.{calendar as vcal_calendar};
+ghost use Rattle.rr_lenient.specs.Stated.{stated_if};
+ghost use Rattle.rr_model.specs.Series.Validity.{IsValidSeries};
 ghost use Rattle.rr_seam.specs.Files.{AnswersCalendar};
+ghost use Rattle.rr_seam.specs.Stated.{AnswersStated, IsKeyStated, Stated};
 
 use crate::graph::GraphCalendar;
 use crate::names::Names;
 use crate::operand::Language;
 use rr_icalfile::IcalFile;
+use rr_lenient::{read_key, read_key_is_stated};
 use rr_model::{Bytes, NoMemory};
 use rr_seam::{EventFile, FileFault, Key, KeyFault, KeySeries, KeyWords};
 use rr_vcalfile::VcalFile;
@@ -28,18 +32,20 @@ pub enum AnyFile<'a> {
 }
 
 impl<'a> AnyFile<'a> {
-    /// The calendar that a text is in a language, beside what the names of its zones mean, or why it is refused.
-    pub fn read(
+    // The calendar that a text is in a language, beside what the names of its zones mean, or why it is refused.
+    fn read(
         alloc: Global,
         language: Language,
+        is_lenient: bool,
         names: &Names,
         text: &'a [u8],
     ) -> Result<AnyFile<'a>, FileFault>
-        ensures { AnswersCalendar calendar_in
-            (calendar_of language (meaning_of_names names.now) names.now.offset text.now) result }
+        ensures { AnswersCalendar own_calendar
+            (own_calendar_of language is_lenient (meaning_of_names names.now) names.now.offset text.now)
+            result }
     {
         match language {
-            Language::Ics => read_ical(alloc, names.offset, text),
+            Language::Ics => read_ical(alloc, names.offset, is_lenient, text),
             Language::Graph => read_graph(alloc, names, text),
             Language::Vcal => read_vcal(alloc, names.offset, text),
         }
@@ -49,18 +55,19 @@ impl<'a> AnyFile<'a> {
 fn read_ical<'a>(
     alloc: Global,
     offset: Option<i32>,
+    is_lenient: bool,
     text: &'a [u8],
 ) -> Result<AnyFile<'a>, FileFault>
-    ensures { AnswersCalendar calendar_in (ical_calendar offset text.now) result }
+    ensures { AnswersCalendar own_calendar (ical_calendar offset is_lenient text.now) result }
 {
-    match IcalFile::read(alloc, offset, text) {
+    match IcalFile::read(alloc, offset, is_lenient, text) {
         Ok(file) => Ok(AnyFile::Ics(file)),
         Err(fault) => Err(fault),
     }
 }
 
 fn read_graph<'a>(alloc: Global, names: &Names, text: &'a [u8]) -> Result<AnyFile<'a>, FileFault>
-    ensures { AnswersCalendar calendar_in
+    ensures { AnswersCalendar own_calendar
         (graph_calendar (meaning_of_names names.now) names.now.offset text.now) result }
 {
     match GraphCalendar::read(alloc, names, text) {
@@ -74,7 +81,7 @@ fn read_vcal<'a>(
     offset: Option<i32>,
     text: &'a [u8],
 ) -> Result<AnyFile<'a>, FileFault>
-    ensures { AnswersCalendar calendar_in (vcal_calendar offset text.now) result }
+    ensures { AnswersCalendar own_calendar (vcal_calendar offset text.now) result }
 {
     match VcalFile::read(alloc, offset, text) {
         Ok(file) => Ok(AnyFile::Vcal(file)),
@@ -129,5 +136,80 @@ impl<'a> EventFile for AnyFile<'a> {
             AnyFile::Graph(calendar) => calendar.file.title(alloc, index),
             AnyFile::Vcal(file) => file.title(alloc, index),
         }
+    }
+}
+
+/// A file of either calendar, whose series that are at odds with RFC 5545 are read as calendars show them, if that is asked for.
+#[derive(Drop)]
+pub struct ReadFile<'a> {
+    file: AnyFile<'a>,
+    is_lenient: bool,
+}
+
+impl<'a> ReadFile<'a> {
+    /// The calendar that a text is in a language, beside what the names of its zones mean, or why it is refused.
+    pub fn read(
+        alloc: Global,
+        language: Language,
+        is_lenient: bool,
+        names: &Names,
+        text: &'a [u8],
+    ) -> Result<ReadFile<'a>, FileFault>
+        ensures { AnswersCalendar calendar_in
+            (calendar_of language is_lenient (meaning_of_names names.now) names.now.offset text.now)
+            result }
+    {
+        match AnyFile::read(alloc, language, is_lenient, names, text) {
+            Ok(file) => Ok(ReadFile { file, is_lenient }),
+            Err(fault) => Err(fault),
+        }
+    }
+}
+
+// What the events of a key state, read as calendars show it if that is asked for.
+fn read_if(alloc: Global, is_lenient: bool, key: KeySeries) -> Result<KeySeries, KeyFault>
+    requires { IsValidSeries key.series }
+    ensures { (stated : Stated) → IsKeyStated stated key → AnswersStated (stated_if is_lenient stated) result }
+{
+    read_key_is_stated();
+    if !is_lenient {
+        return Ok(key);
+    }
+    match read_key(alloc, key) {
+        Ok(read) => Ok(read),
+        Err(NoMemory) => Err(KeyFault::NoMemory),
+    }
+}
+
+impl<'a> EventFile for ReadFile<'a> {
+    ghost use Rattle.rr_compare.specs.Calendars.{keys_read, stated_read, titles_read};
+
+    ghost keys = { keys_read };
+
+    ghost stated = { stated_read };
+
+    ghost titles = { titles_read };
+
+    fn count(&self) -> usize {
+        self.file.count()
+    }
+
+    fn key_at(&self, alloc: Global, index: usize) -> Result<Key, NoMemory> {
+        self.file.key_at(alloc, index)
+    }
+
+    fn key_series(&self, alloc: Global, indexes: &[usize]) -> Result<KeySeries, KeyFault> {
+        match self.file.key_series(alloc, indexes) {
+            Ok(key) => read_if(alloc, self.is_lenient, key),
+            Err(fault) => Err(fault),
+        }
+    }
+
+    fn key_words(&self, alloc: Global, indexes: &[usize]) -> Result<KeyWords, NoMemory> {
+        self.file.key_words(alloc, indexes)
+    }
+
+    fn title(&self, alloc: Global, index: usize) -> Result<Bytes, NoMemory> {
+        self.file.title(alloc, index)
     }
 }

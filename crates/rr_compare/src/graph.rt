@@ -67,6 +67,8 @@ impl GraphCalendar {
                 series: key.series,
                 zones: turned_zones(alloc, self.is_turned, key.zones.as_slice())?,
                 place: key.place,
+                lengths: key.lengths,
+                marks: key.marks,
             }),
             Err(fault) => Err(fault),
         }

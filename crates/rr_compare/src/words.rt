@@ -8,13 +8,13 @@ use rr_text::offset_of;
 
 /// What is said of words that ask nothing.
 pub const USAGE: &[u8] =
-    b"usage: rr-calendars OLD NEW [--differences] [--titles] [--offset +HH:MM] [--zones FILE] [--show UID]\n";
+    b"usage: rr-calendars OLD NEW [--differences] [--titles] [--strict] [--offset +HH:MM] [--zones FILE] [--show UID]\n";
 
 /// The page of help.
 pub const HELP: &[u8] =
     b"rr-calendars says of two calendar files whether each event survived the trip between them, for all years to come.
 
-  rr-calendars OLD NEW [--differences] [--titles] [--offset +HH:MM] [--zones FILE] [--show UID]
+  rr-calendars OLD NEW [--differences] [--titles] [--strict] [--offset +HH:MM] [--zones FILE] [--show UID]
   rr-calendars --help, this page, or --version, the release
 
 OLD and NEW are calendar files of at most 64 MiB; one of the two may be - for standard input. Before a name its language may stand:
@@ -27,11 +27,15 @@ Events are found again by their UID, those of Graph by their iCalUId. There is a
   differs UID floating A              this side has neither a zone nor UTC, and the other side has
   only A UID                          only this file has the event; one that is cancelled is equal
   refused UID A REASON LINE           the event cannot be read, with the line in the file, of Graph the number of the event
+  length UID 3600 900                 the same occurrences, of which one is so many seconds long in OLD, and so many in NEW (1d: days)
   alike UID A REASON LINE             neither file's event can be read, and both files state it in the same words
 
 Times are compared as moments if the zones of both sides are defined: by a VTIMEZONE of the same file, of the other one, or of FILE,
 where Windows' names stand for those of tzdata. Behind a moment stands then how far local time is ahead of UTC, or Z. Otherwise
 local times are compared. Behind a line stands zone if local times are equal, and the zones are not, or are not known to be.
+What is at odds with RFC 5545 is read as calendars show it, and a line says so by its last words: until, an UNTIL of the other kind than
+the start's ends with its day; start, a start that its rule does not choose is an occurrence all the same; day, an EXDATE or
+RECURRENCE-ID that is a date stands for the occurrence of that day. --strict refuses these.
 --differences leaves out the lines of equal events without zone. --titles ends each line with the title of its event between quotes,
 that of OLD if it has the event, otherwise that of NEW; bytes of it that are not visible are printed as x and two digits.
 Moments of UTC beside local time are read by the zones that the file defines; --offset states local time less UTC, for those that no
@@ -44,7 +48,7 @@ have a difference. Behind the number of each day, Monday first, stands = if both
 others, A or B if this file alone has it, . if none has; then the usual times, and the days with others. UID is as it is printed
 here; if it is none, but the title of the events of one UID alone, that one is shown. Of others it prints unknown UID, status 2.
 
-The status is 0 if all are equal or alike, 1 if one differs or stands in one file alone, 2 if none does but one is refused, or is
+The status is 0 if all are equal or alike, 1 if one differs, in length too, or stands in one file alone, 2 if none does but one is refused, or is
 equal with zone behind it, 3 for other words, 4 if a file could not be read, 5 if the output could not be written, 6 out of memory,
 7 if a word is no text in UTF-8.
 ";
@@ -60,6 +64,8 @@ pub struct Request<'a> {
     pub only_differences: bool,
     /// Whether each line ends with the title of its event.
     pub titles: bool,
+    /// Whether what is at odds with RFC 5545 is refused, and not read as calendars show it.
+    pub strict: bool,
     /// The stated offset of a file that has none of its own, local time less UTC, in seconds.
     pub offset: Option<i32>,
     /// The name of a file that defines further zones, which is not empty.
@@ -99,6 +105,7 @@ struct Given<'a> {
     new: Option<Operand<'a>>,
     only_differences: bool,
     titles: bool,
+    strict: bool,
     offset: Option<i32>,
     zones: Option<&'a str>,
     show: Option<&'a str>,
@@ -197,6 +204,10 @@ fn with_option<'a>(given: Given<'a>, word: &'a str) -> Option<Given<'a>>
             titles: true,
             ..given
         }),
+        "--strict" if !given.strict => Some(Given {
+            strict: true,
+            ..given
+        }),
         "--offset" if given.offset.is_none() => Some(Given {
             next: Next::Offset,
             ..given
@@ -234,6 +245,7 @@ fn given_of<'a>(words: &[&'a str]) -> Option<Given<'a>>
         new: None,
         only_differences: false,
         titles: false,
+        strict: false,
         offset: None,
         zones: None,
         show: None,
@@ -285,6 +297,7 @@ fn request_of<'a>(given: Given<'a>) -> Option<Request<'a>>
         new,
         only_differences: given.only_differences,
         titles: given.titles,
+        strict: given.strict,
         offset: given.offset,
         zones: given.zones,
         show: given.show,
@@ -301,8 +314,8 @@ fn is_only(word: &str, words: &[&str]) -> bool
     words[0] == word
 }
 
-/// What the words ask, where they ask something: `--help` or `--version` alone, or two files, with `--differences`, `--titles`, `--offset`,
-/// `--zones` and `--show` at any place.
+/// What the words ask, where they ask something: `--help` or `--version` alone, or two files, with `--differences`, `--titles`, `--strict`,
+/// `--offset`, `--zones` and `--show` at any place.
 #[tactic(auto, unfolding(crate::specs::Words::asked_of))]
 pub fn parse<'a>(words: &[&'a str]) -> Option<Asked<'a>>
     ensures { option_map asked_in result ≡ asked_of_words words.now }

@@ -86,6 +86,7 @@ fn note_on_option(alloc: Global, word: &str) -> Result<Option<String>, AllocErro
     match word {
         "--differences" => Ok(None),
         "--titles" => Ok(None),
+        "--strict" => Ok(None),
         "--offset" => Ok(None),
         "--zones" => Ok(None),
         "--show" => Ok(None),
@@ -94,7 +95,7 @@ fn note_on_option(alloc: Global, word: &str) -> Result<Option<String>, AllocErro
         _ => {
             let word = shown(alloc, word)?;
             Ok(Some(format!(in alloc;
-                "{word} is no option: these are --differences, --titles, --offset, --zones, --show and --help"
+                "{word} is no option: these are --differences, --titles, --strict, --offset, --zones, --show and --help"
             )?))
         }
     }

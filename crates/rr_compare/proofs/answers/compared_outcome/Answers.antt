@@ -11,7 +11,7 @@ returns-in-Ok g c =
     let old = c.args.old in
     let means = meaning_of_names old.names in
     IfOk-weaker c.outcome_beside.result _ _
-    (λ x h. read_a (request_in c.args.request) (calendar_of old.language means old.names.offset old.bytes.now) means (outcome_is x)
+    (λ x h. read_a (request_in c.args.request) (calendar_of old.language old.is_lenient means old.names.offset old.bytes.now) means (outcome_is x)
     (calendar_in c.in-Ok.a) (text_calendar c.args.new) c.in-Ok.ensures h)
     c.outcome_beside.ensures
 
@@ -20,6 +20,6 @@ returns-in-Err g c =
     let old = c.args.old in
     let means = meaning_of_names old.names in
     IfOk-weaker c.refusal_outcome.result _ _
-    (λ x h. refused_a (request_in c.args.request) (calendar_of old.language means old.names.offset old.bytes.now) means (outcome_is x)
+    (λ x h. refused_a (request_in c.args.request) (calendar_of old.language old.is_lenient means old.names.offset old.bytes.now) means (outcome_is x)
     (text_calendar c.args.new) c.in-Err.fault c.in-Err.ensures h)
     c.refusal_outcome.ensures

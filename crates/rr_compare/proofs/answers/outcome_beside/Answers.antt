@@ -11,7 +11,7 @@ returns-in-Ok g c =
     let new = c.args.new in
     let means = meaning_of_names new.names in
     IfOk-weaker c.outcome_of_both.result _ _
-    (λ x h. read_b (request_in c.args.request) (calendar_of new.language means new.names.offset new.bytes.now) means (outcome_is x)
+    (λ x h. read_b (request_in c.args.request) (calendar_of new.language new.is_lenient means new.names.offset new.bytes.now) means (outcome_is x)
     (zoned_in c.args.a.now c.args.names_a.now) (calendar_in c.in-Ok.b) c.in-Ok.ensures h)
     c.outcome_of_both.ensures
 
@@ -20,6 +20,6 @@ returns-in-Err g c =
     let new = c.args.new in
     let means = meaning_of_names new.names in
     IfOk-weaker c.refusal_outcome.result _ _
-    (λ x h. refused_b (request_in c.args.request) (calendar_of new.language means new.names.offset new.bytes.now) means (outcome_is x)
+    (λ x h. refused_b (request_in c.args.request) (calendar_of new.language new.is_lenient means new.names.offset new.bytes.now) means (outcome_is x)
     (zoned_in c.args.a.now c.args.names_a.now) c.in-Err.fault c.in-Err.ensures h)
     c.refusal_outcome.ensures

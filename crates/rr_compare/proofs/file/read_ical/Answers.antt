@@ -1,10 +1,11 @@
-use Rattle.rr_icalfile.specs.Calendar.{calendar as own_calendar, calendar_in as own_calendar_in}
-use Rattle.rr_compare.specs.Calendars.{calendar_in}
-use Rattle.rr_compare.proofs.FileLemmas.{fault_as, read_as}
+use Rattle.rr_icalfile.specs.Calendar.{calendar as ical_calendar, calendar_in as ical_calendar_in}
+use Rattle.rr_compare.specs.Calendars.{own_calendar}
+use Rattle.rr_compare.proofs.FileLemmas.{fault_as}
 use Rattle.rr_compare.proofs.file.read_ical.Goals as goal
 
 pub returns-in-Ok : goal.returns-in-Ok
-returns-in-Ok c = read_as (own_calendar c.args.offset c.args.text.now) (own_calendar_in c.in-Ok.file) c.in-Ok.ensures
+returns-in-Ok c = c.in-Ok.ensures
 
 pub returns-in-Err : goal.returns-in-Err
-returns-in-Err c = fault_as (own_calendar c.args.offset c.args.text.now) own_calendar_in calendar_in c.in-Err.fault c.in-Err.ensures
+returns-in-Err c =
+    fault_as (ical_calendar c.args.offset c.args.is_lenient c.args.text.now) ical_calendar_in own_calendar c.in-Err.fault c.in-Err.ensures
