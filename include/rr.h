@@ -25,7 +25,7 @@ enum rr_status {
     RR_YES = 0,       /* the verdict is yes, or a command without a verdict is done; all events of two calendars are equal or alike; a
                        * candidate is clear of all others */
     RR_NO = 1,        /* the verdict is no, and `out` names the first counterexample; nth finds fewer occurrences, differences some, and
-                       * between more than it prints; an event differs, or stands in one calendar alone; a candidate clashes with one of the
+                       * between more than it prints; an event differs, in length too, or stands in one calendar alone; a candidate clashes with one of the
                        * others */
     RR_REFUSED = 2,   /* an operand is refused: `out` says which one and why; an event, a calendar or one of the others is, and nothing else is
                        * wrong */
@@ -188,8 +188,15 @@ enum rr_said {
     RR_SAID_DIFFERS, /* they do not */
     RR_SAID_ONLY,    /* one calendar alone has events of it */
     RR_SAID_REFUSED, /* its events in one calendar can't be compared */
-    RR_SAID_ALIKE    /* its events can't be compared, and both calendars state them in the same words: the trip has changed nothing of them, so it
+    RR_SAID_ALIKE,   /* its events can't be compared, and both calendars state them in the same words: the trip has changed nothing of them, so it
                       * is no fault */
+    RR_SAID_LENGTH   /* both have the same occurrences of it, of which one is of another length in the one than in the other */
+};
+
+/* How long an occurrence is: so many days of the calendar, each of 23 to 25 hours, and so many exact seconds after them. */
+struct rr_length {
+    uint64_t days;
+    uint64_t seconds;
 };
 
 /* A line of that report. Its texts are parts of the line, so no zero byte stands behind them. */
@@ -206,6 +213,10 @@ struct rr_report_line {
     size_t refusal_length;
     int has_other_zone;      /* after RR_SAID_EQUAL: local times are equal, but the zones have other names, and not both are defined; after
                               * RR_SAID_DIFFERS: local times are equal for ever, and the zones alone differ */
+    struct rr_length length_a, length_b; /* after RR_SAID_LENGTH: how long the first occurrence that has two lengths is in A, and in B */
+    int reads_until;         /* its events were compared, and an UNTIL of the other kind than its start's was read as its day */
+    int reads_start;         /* they were compared, and a start that its rule does not choose was read as an occurrence */
+    int reads_day;           /* they were compared, and an EXDATE or RECURRENCE-ID that is a date was read as the occurrence of that day */
     const char *title;       /* after the word --titles: the title of its first event in A, otherwise in B, in UTF-8 as it is printed, each quote,
                               * backslash and byte that is not of a visible character as \xHH; of no bytes if the event has none. NULL
                               * without that word */
@@ -278,6 +289,36 @@ static inline int rr_read_difference(const char **text, size_t *left, struct rr_
     return rr_read_side(text, left, &line->side);
 }
 
+/* Reads digits, one at least, as a number. */
+static inline int rr_read_count(const char **text, size_t *left, uint64_t *value)
+{
+    const char *first = *text;
+    for (*value = 0; *left > 0 && **text >= '0' && **text <= '9'; ++*text, --*left)
+        *value = *value * 10 + (uint64_t)(**text - '0');
+    return *text > first;
+}
+
+/* Reads a length behind a blank, as "3600", "1d" or "1d3600". */
+static inline int rr_read_length(const char **text, size_t *left, struct rr_length *length)
+{
+    if (!rr_read_byte(text, left, ' ') || !rr_read_count(text, left, &length->seconds))
+        return 0;
+    if (rr_read_byte(text, left, 'd')) {
+        length->days = length->seconds;
+        if (!rr_read_count(text, left, &length->seconds))
+            length->seconds = 0;
+    }
+    return 1;
+}
+
+/* Reads the last words of a line before its title: how its events were read. */
+static inline void rr_read_marks(const char **text, size_t *left, struct rr_report_line *line)
+{
+    line->reads_until = rr_read_text(text, left, " until");
+    line->reads_start = rr_read_text(text, left, " start");
+    line->reads_day = rr_read_text(text, left, " day");
+}
+
 /* Reads why events are refused: all that is left, or all before a title. No refusal has a quote. */
 static inline int rr_read_refusal(const char **text, size_t *left, struct rr_report_line *line)
 {
@@ -310,9 +351,14 @@ static inline int rr_read_said(const char **text, size_t *left, struct rr_report
     rr_read_key(text, left, line);
     if (line->said == RR_SAID_REFUSED || line->said == RR_SAID_ALIKE)
         return rr_read_refusal(text, left, line);
+    if (line->said == RR_SAID_ONLY)
+        return 1;
     if (line->said == RR_SAID_DIFFERS && !rr_read_difference(text, left, line))
         return 0;
-    line->has_other_zone = line->said != RR_SAID_ONLY && rr_read_text(text, left, " zone");
+    if (line->said == RR_SAID_LENGTH && !(rr_read_length(text, left, &line->length_a) && rr_read_length(text, left, &line->length_b)))
+        return 0;
+    line->has_other_zone = line->said != RR_SAID_LENGTH && rr_read_text(text, left, " zone");
+    rr_read_marks(text, left, line);
     return 1;
 }
 
@@ -320,15 +366,15 @@ static inline int rr_read_said(const char **text, size_t *left, struct rr_report
  * it; otherwise it leaves both as they are: at the last line, which counts, at the refusal of a whole calendar, and at the end. */
 static inline int rr_read_report_line(const char **text, size_t *left, struct rr_report_line *line)
 {
-    static const char *const words[] = { "equal ", "differs ", "only ", "refused ", "alike " };
+    static const char *const words[] = { "equal ", "differs ", "only ", "refused ", "alike ", "length " };
     const char *at = *text, *end = *left ? (const char *)memchr(*text, '\n', *left) : NULL;
     size_t count = end ? (size_t)(end - *text) : *left, whole = end ? count + 1 : count;
     int word = 0;
 
     memset(line, 0, sizeof *line);
-    while (word < 5 && !rr_read_text(&at, &count, words[word]))
+    while (word < 6 && !rr_read_text(&at, &count, words[word]))
         word++;
-    if (word == 5)
+    if (word == 6)
         return 0;
     line->said = (enum rr_said)word;
     if (!rr_read_said(&at, &count, line) || !rr_read_title(&at, &count, line) || count > 0 || line->key_length == 0)

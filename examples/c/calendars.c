@@ -52,6 +52,11 @@ static void tell(const struct rr_report_line *line)
     case RR_SAID_REFUSED:
         printf("can't be read in %s, for %.*s\n", calendars[line->side], (int)line->refusal_length, line->refusal);
         break;
+    case RR_SAID_LENGTH:
+        printf("the same occurrences in both, of which one lasts %llu days and %llu seconds in %s, and %llu and %llu in %s\n",
+               (unsigned long long)line->length_a.days, (unsigned long long)line->length_a.seconds, calendars[RR_A],
+               (unsigned long long)line->length_b.days, (unsigned long long)line->length_b.seconds, calendars[RR_B]);
+        break;
     case RR_SAID_ALIKE:
         printf("in the same words in both, which can't be read, for %.*s\n", (int)line->refusal_length, line->refusal);
         break;

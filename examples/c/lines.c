@@ -43,6 +43,29 @@ static const struct clash_row clash_rows[] = {
     { "", 0, { 0, 0, 0, 0, 0, 0, 0 }, { 0, 0, 0, 0, 0, 0, 0 }, { 0, 0, 0, 0, 0, 0, 0 } },
 };
 
+struct mark_row {
+    const char *text;
+    int is_line;
+    enum rr_said said;
+    struct rr_length a, b;
+    int reads_until, reads_start, reads_day;
+};
+
+/* Lengths, and the words that say how events were read. */
+static const struct mark_row mark_rows[] = {
+    { "length u 3600 900\n", 1, RR_SAID_LENGTH, { 0, 3600 }, { 0, 900 }, 0, 0, 0 },
+    { "length line 12 1d 86400 \"x\"", 1, RR_SAID_LENGTH, { 1, 0 }, { 0, 86400 }, 0, 0, 0 },
+    { "length u 1d3600 0 until start day\n", 1, RR_SAID_LENGTH, { 1, 3600 }, { 0, 0 }, 1, 1, 1 },
+    { "equal u zone start\n", 1, RR_SAID_EQUAL, { 0, 0 }, { 0, 0 }, 0, 1, 0 },
+    { "equal u day \"a day\"\n", 1, RR_SAID_EQUAL, { 0, 0 }, { 0, 0 }, 0, 0, 1 },
+    { "differs u no 2024-04-01 A until\n", 1, RR_SAID_DIFFERS, { 0, 0 }, { 0, 0 }, 1, 0, 0 },
+    { "equal until\n", 1, RR_SAID_EQUAL, { 0, 0 }, { 0, 0 }, 0, 0, 0 },
+    { "length u 3600\n", 0, RR_SAID_EQUAL, { 0, 0 }, { 0, 0 }, 0, 0, 0 },
+    { "length u 3600 d\n", 0, RR_SAID_EQUAL, { 0, 0 }, { 0, 0 }, 0, 0, 0 },
+    { "equal u start until\n", 0, RR_SAID_EQUAL, { 0, 0 }, { 0, 0 }, 0, 0, 0 },
+    { "only A u until\n", 0, RR_SAID_EQUAL, { 0, 0 }, { 0, 0 }, 0, 0, 0 },
+};
+
 struct report_row {
     const char *text;
     int is_line;
@@ -117,6 +140,23 @@ static int is_same(const struct rr_moment *a, const struct rr_moment *b)
            a->minute == b->minute && a->second == b->second;
 }
 
+static int is_length(const struct rr_length *a, const struct rr_length *b)
+{
+    return a->days == b->days && a->seconds == b->seconds;
+}
+
+/* Whether the lengths and the last words of a line are read as its row says. */
+static int is_marked(const struct mark_row *row)
+{
+    const char *text = row->text;
+    size_t left = strlen(text);
+    struct rr_report_line line;
+    if (rr_read_report_line(&text, &left, &line) != row->is_line)
+        return 0;
+    return !row->is_line || (line.said == row->said && is_length(&line.length_a, &row->a) && is_length(&line.length_b, &row->b) &&
+                             line.reads_until == row->reads_until && line.reads_start == row->reads_start && line.reads_day == row->reads_day);
+}
+
 static int is_text(const char *bytes, size_t length, const char *text)
 {
     return length == strlen(text) && (length == 0 || memcmp(bytes, text, length) == 0);
@@ -148,6 +188,11 @@ int main(void)
     for (size_t i = 0; i < sizeof report_rows / sizeof *report_rows; i++)
         if (!is_read(&report_rows[i])) {
             printf("report line %d: %s\n", (int)i, report_rows[i].text);
+            failed++;
+        }
+    for (size_t i = 0; i < sizeof mark_rows / sizeof *mark_rows; i++)
+        if (!is_marked(&mark_rows[i])) {
+            printf("marked line %d: %s\n", (int)i, mark_rows[i].text);
             failed++;
         }
     for (size_t i = 0; i < sizeof clash_rows / sizeof *clash_rows; i++) {

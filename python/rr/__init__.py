@@ -49,11 +49,11 @@ from dataclasses import dataclass
 from typing import Any, Callable, Iterable, Iterator, Literal, overload
 
 from ._library import NO, NO_MEMORY, REFUSED, TOO_SMALL, USAGE, rr_answer, rr_calendars_answer, rr_clear_answer, version
-from ._report import Calendar, Counts, EventNumber, Key, More, Report, ReportLine, Shown, calendar_of, names_of, report_of, shown_of
+from ._report import Calendar, Counts, EventNumber, Key, Length, More, Report, ReportLine, Shown, calendar_of, names_of, report_of, shown_of
 from ._series import AnySeries, Language, Moment, Operand, Series, Text, is_aware, moment_of, offset_text, operand, text_of
 
 __all__ = [
-    "AnySeries", "Calendar", "Clash", "Counts", "Differs", "EventNumber", "Key", "Language", "Moment", "More", "OutOfMemory", "Part", "Plan",
+    "AnySeries", "Calendar", "Clash", "Counts", "Differs", "EventNumber", "Key", "Language", "Length", "Moment", "More", "OutOfMemory", "Part", "Plan",
     "Refused", "Report", "ReportLine", "Series", "Shown", "Text", "__version__",
     "answer", "calendars", "canon", "canon1", "check", "clashes", "clear", "common", "differences", "disjoint", "equal", "infer", "minus", "nth",
     "occurrences", "rank", "split", "translate", "union", "upcoming", "window", "within",
@@ -480,11 +480,17 @@ def infer(series: AnySeries) -> str:
 
 
 @overload
-def calendars(old: Calendar, new: Calendar, offset: datetime.timedelta | None = None, show: None = None, differences: bool = False, titles: bool = False) -> Report: ...
+def calendars(old: Calendar, new: Calendar, offset: datetime.timedelta | None = None, show: None = None, differences: bool = False, titles: bool = False, strict: bool = False) -> Report: ...
 @overload
-def calendars(old: Calendar, new: Calendar, offset: datetime.timedelta | None = None, *, show: Key, differences: bool = False, titles: bool = False) -> Shown: ...
+def calendars(old: Calendar, new: Calendar, offset: datetime.timedelta | None = None, *, show: Key, differences: bool = False, titles: bool = False, strict: bool = False) -> Shown: ...
 def calendars(
-    old: Calendar, new: Calendar, offset: datetime.timedelta | None = None, show: Key | None = None, differences: bool = False, titles: bool = False
+    old: Calendar,
+    new: Calendar,
+    offset: datetime.timedelta | None = None,
+    show: Key | None = None,
+    differences: bool = False,
+    titles: bool = False,
+    strict: bool = False,
 ) -> Report | Shown:
     """What is said of two calendars, as docs/CALENDARS.md has it: each event is found again by its UID. Events are compared by their moments if
     the zones of both sides are defined in the two calendars; a file of further zones, as the program takes, is not for this call. Moments in UTC
@@ -493,7 +499,8 @@ def calendars(
     With titles each line has the title of its events. With show only the events of that UID are asked for, or, if neither calendar has it, those
     of the one UID whose events have it as their title; the months from the first difference of their local times on are painted, and it is said
     how many differences more there are, and until when. A calendar that can't be read as a whole is Refused, and a UID that neither has is a
-    KeyError. Events that both calendars state in the same words, which can't be read, are alike, and no fault.
+    KeyError. Events that both calendars state in the same words, which can't be read, are alike, and no fault. What is at odds with RFC 5545 is
+    read as calendars show it, and its line has readings that say how; with strict it is refused.
 
     >>> board = "BEGIN:VEVENT\\nUID:board\\nDTSTART;VALUE=DATE:20240105\\nRRULE:FREQ=MONTHLY\\nEND:VEVENT\\n"
     >>> lunch = "BEGIN:VEVENT\\nUID:lunch\\nDTSTART:20240105T123000\\nEND:VEVENT\\n"
@@ -522,6 +529,7 @@ def calendars(
     words += [] if offset is None else ["--offset", offset_text(offset)]
     words += ["--differences"] if differences else []
     words += ["--titles"] if titles else []
+    words += ["--strict"] if strict else []
     asked = [words] if show is None else [[*words, "--show", name] for name in names_of(show)]
     texts = (_calendars_text(it, a, b) for it in asked)
     text = next((it for it in texts if not it.startswith("unknown ")), None)

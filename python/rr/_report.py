@@ -5,7 +5,7 @@ import datetime
 import os
 import re
 from dataclasses import dataclass
-from typing import Literal, Union
+from typing import Literal, NamedTuple, Union
 
 from ._series import Moment, is_file_name, moment_of, read_file
 
@@ -16,7 +16,15 @@ Calendar = Union[str, bytes, bytearray, memoryview, "os.PathLike[str]"]
 """The text or the bytes of a calendar, or the path of its file, which is read at each call."""
 Key = Union[str, int]
 """The UID of events; of an event without one the number of the line that begins it, or in a list of Microsoft Graph its EventNumber."""
-Said = Literal["equal", "differs", "only", "refused", "alike"]
+Said = Literal["equal", "differs", "length", "only", "refused", "alike"]
+Reading = Literal["until", "start", "day"]
+
+
+class Length(NamedTuple):
+    """How long an occurrence is: so many days of the calendar, each of 23 to 25 hours, and so many exact seconds after them."""
+
+    days: int
+    seconds: int
 
 
 class EventNumber(int):
@@ -40,7 +48,8 @@ class ReportLine:
     """What is said of the events of one UID.
 
     key         the UID as the file has it, or the line or the EventNumber of an event without one
-    said        'equal': both have the same occurrences, at the same moments; 'differs': they do not; 'only': one calendar alone has events of it;
+    said        'equal': both have the same occurrences, at the same moments; 'differs': they do not; 'length': they do, but one of them is of another
+                length in the one than in the other; 'only': one calendar alone has events of it;
                 'refused': they can't be compared; 'alike': they can't be compared, but both state them in the same words, so nothing of them
                 is lost: that is no fault
     side        unless equal: 'A' is the old calendar, 'B' the new one. Whose occurrence it is, which has the events, or in which they are refused;
@@ -52,6 +61,10 @@ class ReportLine:
     other_zone  of equal events: local times are equal, but their zones have other names, and not both are defined, so nobody can tell more; if they
                 differ: local times are equal for ever, and the zones alone differ
     floating    they differ since those of the side state neither a zone nor UTC, and the others do: there is no moment
+    lengths     after 'length': how long the first occurrence that has two lengths is in A, and in B
+    readings    if they were compared: how what is at odds with RFC 5545 was read in A or in B. 'until': an UNTIL of the other kind than its start's,
+                as its day; 'start': a start that its rule does not choose, as an occurrence; 'day': an EXDATE or RECURRENCE-ID that is a date, as the
+                occurrence of that day
     title       if titles are asked for: the title of its first event in A, otherwise in B, empty if that has none; otherwise None
     """
 
@@ -64,6 +77,8 @@ class ReportLine:
     other_zone: bool = False
     floating: bool = False
     title: str | None = None
+    lengths: tuple[Length, Length] | None = None
+    readings: tuple[Reading, ...] = ()
 
 
 @dataclass(frozen=True)
@@ -180,10 +195,14 @@ def _unescaped(printed: str) -> str:
 
 _KEY = r"(?:line (?P<line>[0-9]+)|event (?P<event>[0-9]+)|(?P<uid>\S+))"
 _REFUSAL = "(?P<refusal>[A-Za-z]+(?: [^ 0-9]\\S*)*) (?P<place>[0-9]+)"
+_MARKS = "(?P<until> until)?(?P<start> start)?(?P<day> day)?"
+_LENGTH = "(?:[0-9]+d)?[0-9]*(?<=[0-9d])"
 _TITLE = '(?: "(?P<title>[^"]*)")?'
+_READINGS: tuple[Reading, ...] = ("until", "start", "day")
 _FORMS: list[tuple[Said, str]] = [
-    ("equal", f"equal {_KEY}(?P<zone> zone)?"),
-    ("differs", f"differs {_KEY} (?:no (?P<moment>\\S+)|(?P<floating>floating)) (?P<side>[AB])(?P<zone> zone)?"),
+    ("equal", f"equal {_KEY}(?P<zone> zone)?{_MARKS}"),
+    ("differs", f"differs {_KEY} (?:no (?P<moment>\\S+)|(?P<floating>floating)) (?P<side>[AB])(?P<zone> zone)?{_MARKS}"),
+    ("length", f"length {_KEY} (?P<a>{_LENGTH}) (?P<b>{_LENGTH}){_MARKS}"),
     ("only", f"only (?P<side>[AB]) {_KEY}"),
     ("refused", f"refused {_KEY} (?P<side>[AB]) {_REFUSAL}"),
     ("alike", f"alike {_KEY} (?P<side>[AB]) {_REFUSAL}"),
@@ -194,7 +213,7 @@ def line_of(text: str) -> ReportLine | None:
     """A line of a report, or None if it is none of a UID.
 
     >>> line_of("differs oncall@team.example no 2024-06-28 A zone")
-    ReportLine(key='oncall@team.example', said='differs', side='A', moment=datetime.date(2024, 6, 28), refusal=None, place=None, other_zone=True, floating=False, title=None)
+    ReportLine(key='oncall@team.example', said='differs', side='A', moment=datetime.date(2024, 6, 28), refusal=None, place=None, other_zone=True, floating=False, title=None, lengths=None, readings=())
     >>> line_of("differs u no 2024-04-01T09:00:00+02:00 A").moment.isoformat(), line_of("differs u floating B").floating
     ('2024-04-01T09:00:00+02:00', True)
     >>> line_of("only B line 12").key, line_of("only B event 12").key
@@ -202,10 +221,12 @@ def line_of(text: str) -> ReportLine | None:
     >>> line_of("refused u B BadMember recurrence 3").refusal
     'BadMember recurrence'
     >>> line_of(r'alike u A NotSynchronised 1 "The \\x22new\\x22 caf\u00e9"')
-    ReportLine(key='u', said='alike', side='A', moment=None, refusal='NotSynchronised', place=1, other_zone=False, floating=False, title='The "new" caf\u00e9')
+    ReportLine(key='u', said='alike', side='A', moment=None, refusal='NotSynchronised', place=1, other_zone=False, floating=False, title='The "new" caf\u00e9', lengths=None, readings=())
     >>> line_of('equal "u"').title, line_of('equal "u" zone ""').title, line_of('only A line 12 "12"').title
     (None, '', '12')
     >>> line_of("refused A BadLine 3")
+    >>> line_of("length u 3600 1d").lengths, line_of("length u 3600 1d until").readings, line_of("equal u zone start day").readings
+    ((Length(days=0, seconds=3600), Length(days=1, seconds=0)), ('until',), ('start', 'day'))
     """
     for said, form in _FORMS:
         it = re.fullmatch(form + _TITLE, text)
@@ -226,7 +247,19 @@ def _line(said: Said, it: dict[str, str | None]) -> ReportLine:
         it.get("zone") is not None,
         it.get("floating") is not None,
         None if title is None else _unescaped(title),
+        None if said != "length" else (_length(it["a"] or ""), _length(it["b"] or "")),
+        tuple(reading for reading in _READINGS if it.get(reading) is not None),
     )
+
+
+def _length(text: str) -> Length:
+    """A length as a line tells it.
+
+    >>> _length("3600"), _length("1d"), _length("2d60")
+    (Length(days=0, seconds=3600), Length(days=1, seconds=0), Length(days=2, seconds=60))
+    """
+    days, behind, seconds = text.rpartition("d")
+    return Length(int(days) if behind else 0, int(seconds or 0))
 
 
 def told_moment(text: str) -> Moment:
