@@ -1,5 +1,5 @@
 -- How many keys there are, and of how many each is said.
-use Rattle.std.specs.Prelude.{ℕ, Bool, true, false, ◌||◌, nat_lt, if◌then◌else◌, List, length, count_by}
+use Rattle.std.specs.Prelude.{ℕ, Bool, true, false, ◌||◌, nat_lt, if◌then◌else◌, List, length, count_by, Option, None, Some}
 use Rattle.rr_model.specs.declared.refusal.Refusal.TheVariants.{UtcMoment}
 use Rattle.rr_model.specs.declared.verdict.Side.{Side}
 use Rattle.rr_model.specs.declared.verdict.Side.TheVariants.{A, B, Both}
@@ -9,6 +9,7 @@ use Rattle.rr_seam.specs.declared.refusal.KeyRefusal.TheVariants as key_refusal
 use Rattle.rr_trip.specs.declared.report.Counted.{Counted}
 use Rattle.rr_trip.specs.declared.report.Counted.TheVariants as counted
 use Rattle.rr_trip.specs.declared.report.Counts.{Counts}
+use Rattle.rr_trip.specs.declared.report.Partner.{Partner}
 use Rattle.rr_trip.specs.declared.report.ReportLine.{ReportLine}
 use Rattle.rr_trip.specs.declared.report.Status.{Status}
 use Rattle.rr_trip.specs.declared.report.Status.TheVariants as status
@@ -115,6 +116,15 @@ is_counted counted.InUtc said = is_in_utc said
 abbrev pub count_said : (Said → Bool) → List ReportLine → ℕ
 count_said is lines = count_by (λ (line : ReportLine). is line.said) lines
 
+-- events have another key in B than in A
+abbrev pub is_matched : Option Partner → Bool
+is_matched None = false
+is_matched (Some partner) = true
+
+-- how many lines of a report are of events that have another key in B than in A
+abbrev pub count_matched : List ReportLine → ℕ
+count_matched lines = count_by (λ (line : ReportLine). is_matched line.partner) lines
+
 -- the counts of a report's lines
 abbrev pub counts_of : List ReportLine → Counts
 counts_of lines = record {
@@ -126,6 +136,7 @@ counts_of lines = record {
   refused = count_said is_refused lines;
   zone = count_said is_unsure lines;
   alike = count_said is_alike lines;
+  matched = count_matched lines;
 }
 
 -- how a comparison with these counts ends: what is alike is no fault

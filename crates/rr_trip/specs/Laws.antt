@@ -1,5 +1,5 @@
 -- What follows of what is said of a key.
-use Rattle.std.specs.Prelude.{◌≡◌, ◌↔◌, true, ℤ, Option}
+use Rattle.std.specs.Prelude.{◌≡◌, ◌↔◌, Bool, true, ℤ, All, List, Option, None}
 use Rattle.rr_length.specs.Lengths.{Lengths}
 use Rattle.rr_length.specs.declared.other.OtherLength.{OtherLength}
 use Rattle.rr_model.specs.Series.Occurrences.{Occurs}
@@ -10,8 +10,10 @@ use Rattle.rr_seam.specs.Words.{are_same_words}
 use Rattle.rr_seam.specs.declared.refusal.KeyRefusal.{KeyRefusal}
 use Rattle.rr_trip.specs.Judged.{IsRefused}
 use Rattle.rr_trip.specs.Readings.{Reading}
+use Rattle.rr_trip.specs.Report.{IsReport}
 use Rattle.rr_trip.specs.Said.{HasOtherLength, IsSaidBehind, IsSaidBy, IsSaidOfBoth, has_equal_times, is_empty, occurs_at}
-use Rattle.rr_trip.specs.Zoned.{Meaning}
+use Rattle.rr_trip.specs.Zoned.{Meaning, ZonedCalendar}
+use Rattle.rr_trip.specs.declared.report.ReportLine.{ReportLine}
 use Rattle.rr_trip.specs.declared.said.Said.{Said}
 use Rattle.rr_trip.specs.declared.said.Said.TheVariants.{Alike, Length}
 
@@ -44,3 +46,11 @@ abbrev pub LengthIsExact : Type 0
 LengthIsExact =
     (a b : Option Lengths) (reading : Reading) (A B : Series) (times said : Said) → IsSaidBy reading A B times
     → IsSaidBehind (occurs_at A) a b times said → IsLengthSaid said ↔ ((has_equal_times times ≡ true) × HasOtherLength (occurs_at A) a b)
+
+-- ---- keys that are found again
+
+-- If events are to be found by their UID alone, no line of a report is of events that have another key in B.
+abbrev pub ByUidMatchesNone : Type 0
+ByUidMatchesNone =
+    (titles : Bool) (a b : ZonedCalendar) (lines : List ReportLine) → IsReport true titles a b lines
+    → All (λ (line : ReportLine). line.partner ≡ None) lines

@@ -1,4 +1,3 @@
-pub mod Entries
 pub mod Judged
 pub mod Same
 pub mod Zoned
@@ -7,7 +6,12 @@ pub mod Said
 pub mod Pairs
 pub mod Known
 pub mod Zones
+pub mod Features
+pub mod Likeness
+pub mod Found
+pub mod Parts
 pub mod Report
+pub mod Subjects
 pub mod Counts
 pub mod Printed
 pub mod Grid

@@ -21,6 +21,7 @@ use Rattle.rr_seam.specs.declared.key.Key.{Key}
 use Rattle.rr_seam.specs.declared.key.Key.TheVariants as key
 use Rattle.rr_trip.specs.Counts.{counts_of, is_equal, is_unsure}
 use Rattle.rr_trip.specs.declared.report.Counts.{Counts}
+use Rattle.rr_trip.specs.declared.report.Partner.{Partner}
 use Rattle.rr_trip.specs.declared.report.ReportLine.{ReportLine}
 use Rattle.rr_trip.specs.declared.said.Said.{Said}
 use Rattle.rr_trip.specs.declared.said.Said.TheVariants.{Only, Refused, Alike, Floating, Length, Compared}
@@ -186,9 +187,24 @@ abbrev pub title_field : Option (List ℕ) → List ℕ
 title_field None = []
 title_field (Some title) = codes " \"" ++ title_text title ++ codes "\""
 
--- the whole line of a key that is printed so
-unfoldable pub said_line : List ℕ → Said → Marks → Option (List ℕ) → List ℕ
-said_line key said marks title = said_text key said ++ marks_text marks ++ title_field title ++ codes "\n"
+-- the key of the events in B behind that of those in A, if it is another one
+abbrev pub partner_text : Option Partner → List ℕ
+partner_text None = []
+partner_text (Some partner) = codes " = " ++ key_text partner.key
+
+-- what the events of a line are called: by their key, and by their key in B if that is another one
+abbrev pub name_text : Key → Option Partner → List ℕ
+name_text key partner = key_text key ++ partner_text partner
+
+-- the last word of the line of events that have another key in B, if their title is another one too
+abbrev pub other_title_text : Option Partner → List ℕ
+other_title_text None = []
+other_title_text (Some partner) = word_if partner.has_other_title (codes " title")
+
+-- the whole line of events
+unfoldable pub said_line : Key → Option Partner → Said → Marks → Option (List ℕ) → List ℕ
+said_line key partner said marks title =
+    said_text (name_text key partner) said ++ marks_text marks ++ other_title_text partner ++ title_field title ++ codes "\n"
 
 -- a line is printed if those of equal keys are left out, unless nobody can tell of one
 abbrev pub is_difference : Said → Bool
@@ -197,23 +213,23 @@ is_difference said = not (is_equal said) || is_unsure said
 -- the line of a key, or nothing where it is left out
 abbrev pub line_text : Bool → ReportLine → List ℕ
 line_text only_differences line =
-    if not only_differences || is_difference line.said then said_line (key_text line.key) line.said line.marks line.title else []
+    if not only_differences || is_difference line.said then said_line line.key line.partner line.said line.marks line.title else []
 
 -- the printed lines of the keys of a report
 abbrev pub lines_text : Bool → List ReportLine → List ℕ
 lines_text only_differences [] = []
 lines_text only_differences (line ∷ lines) = line_text only_differences line ++ lines_text only_differences lines
 
--- how many keys are alike, the last of the counts, and the end of their line
-abbrev pub last_count_text : ℕ → List ℕ
-last_count_text alike = codes " alike " ++ decimal alike ++ codes "\n"
+-- how many keys are alike, and how many events have another key in B, the last of the counts, and the end of their line
+abbrev pub last_counts_text : ℕ → ℕ → List ℕ
+last_counts_text alike matched = codes " alike " ++ decimal alike ++ codes " matched " ++ decimal matched ++ codes "\n"
 
 -- the last printed line, which counts
 abbrev pub counts_text : Counts → List ℕ
 counts_text counts =
     codes "events " ++ decimal counts.events ++ codes " equal " ++ decimal counts.equal ++ codes " differs " ++ decimal counts.differs
     ++ codes " only-A " ++ decimal counts.only_a ++ codes " only-B " ++ decimal counts.only_b ++ codes " refused " ++ decimal counts.refused
-    ++ codes " zone " ++ decimal counts.zone ++ last_count_text counts.alike
+    ++ codes " zone " ++ decimal counts.zone ++ last_counts_text counts.alike counts.matched
 
 -- The report as it is printed: the lines of the keys, and the counts of all.
 unfoldable pub report_text : Bool → List ReportLine → List ℕ

@@ -1,34 +1,24 @@
 -- What is said of each key of two calendars.
-use Rattle.std.specs.Prelude.{◌≡◌, ℕ, ◌+◌, Bool, if◌then◌else◌, All, List, [], ◌∷◌, ◌++◌, map, take_while, drop, length, Option, None, Some}
-use Rattle.std.specs.List.{Contains}
-use Rattle.rr_model.specs.Rising.{Rises}
-use Rattle.rr_seam.specs.Keys.{is_same_key, key_lt}
+use Rattle.std.specs.Prelude.{◌≡◌, ℕ, ◌+◌, ◌≤◌, Bool, true, false, if◌then◌else◌, All, List, [], ◌∷◌, length, slice_get, Option, None, Some}
+use Rattle.rr_groups.specs.Groups.{AreGroups}
+use Rattle.rr_groups.specs.declared.group.Group.{Group}
 use Rattle.rr_seam.specs.Stated.{Stated}
 use Rattle.rr_seam.specs.declared.key.Key.{Key}
-use Rattle.rr_trip.specs.Entries.{has_key, indexes_in, is_of_a}
+use Rattle.rr_trip.specs.Found.{AreFoundIf}
+use Rattle.rr_trip.specs.Parts.{ArePartsIf}
 use Rattle.rr_trip.specs.Said.{IsPrintableSaid, IsSaid, marks_said}
 use Rattle.rr_trip.specs.Zoned.{ZonedCalendar}
-use Rattle.rr_trip.specs.declared.entry.Entry.{Entry}
-use Rattle.rr_trip.specs.declared.entry.KeyIndexes.{KeyIndexes}
+use Rattle.rr_trip.specs.declared.found.Found.{Found}
+use Rattle.rr_trip.specs.declared.found.FoundAgain.{FoundAgain}
+use Rattle.rr_trip.specs.declared.likeness.Likeness.{Likeness}
+use Rattle.rr_trip.specs.declared.likeness.Likeness.TheVariants.{Moments, Times, Start, OtherTitle}
+use Rattle.rr_trip.specs.declared.report.Partner.{Partner}
 use Rattle.rr_trip.specs.declared.report.ReportLine.{ReportLine}
 
 -- what the events of these indexes state together, if they are some
 abbrev pub stated_in : (List ℕ → Stated) → List ℕ → Option Stated
 stated_in stated [] = None
 stated_in stated (i ∷ is) = Some (stated (i ∷ is))
-
--- the indexes, from this one on, of the keys that pass a test
-abbrev pub indexes_from : (Key → Bool) → ℕ → List Key → List ℕ
-indexes_from test n [] = []
-indexes_from test n (k ∷ ks) = if test k then n ∷ indexes_from test (n + 1) ks else indexes_from test (n + 1) ks
-
--- what the events whose key passes a test state together in a calendar, if it has some
-abbrev pub stated_by : (Key → Bool) → ZonedCalendar → Option Stated
-stated_by test calendar = stated_in calendar.stated (indexes_from test 0 calendar.keys)
-
--- what the events of a key state together in a calendar, if it has some
-abbrev pub stated_at : ZonedCalendar → Key → Option Stated
-stated_at calendar key = stated_by (λ k. is_same_key k key) calendar
 
 -- the title of the first of these events in A, otherwise of the first of those in B, if there is one
 abbrev pub title_by : (ℕ → List ℕ) → (ℕ → List ℕ) → List ℕ → List ℕ → Option (List ℕ)
@@ -40,64 +30,84 @@ title_by a b [] [] = None
 abbrev pub title_if : Bool → Option (List ℕ) → Option (List ℕ)
 title_if titles title = if titles then title else None
 
--- the title of the first event of a key in A, otherwise in B
-abbrev pub title_at : ZonedCalendar → ZonedCalendar → Key → Option (List ℕ)
-title_at a b key =
-    title_by a.titles b.titles (indexes_from (λ k. is_same_key k key) 0 a.keys) (indexes_from (λ k. is_same_key k key) 0 b.keys)
+-- ---- what a line is of
 
--- the keys of a report's lines
-abbrev pub keys_of : List ReportLine → List Key
-keys_of lines = map (λ (line : ReportLine). line.key) lines
+-- what a line is of: a key with its events in A and in B, and the key of those in B if that is another one
+pub record Subject : Type 0 where
+  pub key : Key
+  pub a : List ℕ
+  pub b : List ℕ
+  pub partner : Option Partner
 
--- each key of either calendar has one line, in their order, and each line says what is so of its key, and how its events are read, with its
--- title if titles are asked for
-pub record IsReport (titles : Bool) (a b : ZonedCalendar) (lines : List ReportLine) : Type 0 where
-  pub rises : Rises key_lt (keys_of lines)
-  pub every : All (Contains (keys_of lines)) (a.keys ++ b.keys)
-  pub none_else : All (λ (line : ReportLine). Contains (a.keys ++ b.keys) line.key) lines
-  pub said : All (λ (line : ReportLine). IsSaid a.means b.means (stated_at a line.key) (stated_at b line.key) line.said) lines
-  pub marked : All (λ (line : ReportLine). line.marks ≡ marks_said (stated_at a line.key) (stated_at b line.key) line.said) lines
-  pub titled : All (λ (line : ReportLine). line.title ≡ title_if titles (title_at a b line.key)) lines
-  pub printable : All (λ (line : ReportLine). IsPrintableSaid line.said) lines
+-- the events were found again though their titles differ
+abbrev pub has_other_title : Likeness → Bool
+has_other_title Moments = false
+has_other_title Times = false
+has_other_title Start = false
+has_other_title OtherTitle = true
 
--- ---- lines of sorted entries
+-- a line of the events of one key in both calendars
+pub record IsOwnSubject (groups : List Group) (n : ℕ) (subject : Subject) : Type 0 where
+  pub group : Group
+  pub at : slice_get groups n ≡ Some group
+  pub is : subject ≡ record { key = group.key; a = group.a.items; b = group.b.items; partner = None }
 
--- the entries of A at the front of a list
-abbrev pub front_of_a : List Entry → List Entry
-front_of_a entries = take_while is_of_a entries
+-- a line of the events of a key in A, and of those of another in B under which they are found again
+pub record IsPairSubject (groups : List Group) (n : ℕ) (found : Found) (subject : Subject) : Type 0 where
+  pub group : Group
+  pub other : Group
+  pub at : slice_get groups n ≡ Some group
+  pub other_at : slice_get groups found.index ≡ Some other
+  pub is :
+      subject
+      ≡ record {
+        key = group.key;
+        a = group.a.items;
+        b = other.b.items;
+        partner = Some (record { key = other.key; has_other_title = has_other_title found.likeness });
+      }
 
--- the entries of a list after those of A at its front
-abbrev pub after_a : List Entry → List Entry
-after_a entries = drop (length (front_of_a entries)) entries
+-- what the line of a group is of, by what it is found again as in B
+abbrev pub IsSubject : List Group → ℕ → Option Found → Subject → Type 0
+IsSubject groups n None subject = IsOwnSubject groups n subject
+IsSubject groups n (Some found) subject = IsPairSubject groups n found subject
 
--- the line of the entries of one key, those of A first
-pub record IsLineOf (titles : Bool) (a b : ZonedCalendar) (key : Key) (run : List Entry) (line : ReportLine) : Type 0 where
-  pub of_key : line.key ≡ key
-  pub said : IsSaid a.means b.means (stated_in a.stated (indexes_in (front_of_a run))) (stated_in b.stated (indexes_in (after_a run))) line.said
-  pub marked : line.marks ≡ marks_said (stated_in a.stated (indexes_in (front_of_a run))) (stated_in b.stated (indexes_in (after_a run))) line.said
-  pub titled : line.title ≡ title_if titles (title_by a.titles b.titles (indexes_in (front_of_a run)) (indexes_in (after_a run)))
+-- ---- lines
+
+-- the line says what is so of its events, and how they are read, with their title if titles are asked for
+pub record IsLineOf (titles : Bool) (a b : ZonedCalendar) (subject : Subject) (line : ReportLine) : Type 0 where
+  pub of_key : line.key ≡ subject.key
+  pub partner : line.partner ≡ subject.partner
+  pub said : IsSaid a.means b.means (stated_in a.stated subject.a) (stated_in b.stated subject.b) line.said
+  pub marked : line.marks ≡ marks_said (stated_in a.stated subject.a) (stated_in b.stated subject.b) line.said
+  pub titled : line.title ≡ title_if titles (title_by a.titles b.titles subject.a subject.b)
   pub printable : IsPrintableSaid line.said
 
--- the indexes of the entries of one key, by calendar
-pub record AreIndexesOf (run : List Entry) (indexes : KeyIndexes) : Type 0 where
-  pub a : indexes.a.items ≡ indexes_in (front_of_a run)
-  pub b : indexes.b.items ≡ indexes_in (after_a run)
+-- the line is that of the group at this index
+pub record IsLineAt (titles : Bool) (a b : ZonedCalendar) (groups : List Group) (n : ℕ) (found : Option Found) (line : ReportLine) : Type 0 where
+  pub subject : Subject
+  pub is_subject : IsSubject groups n found subject
+  pub is_line : IsLineOf titles a b subject line
 
--- entries begin with this run of one key, that of the first
-pub record IsRunAt (entries : List Entry) (first : Entry) (run : List Entry) : Type 0 where
-  pub more : List Entry
-  pub begins : entries ≡ first ∷ more
-  pub run_is : run ≡ take_while (has_key first.key) entries
+-- The lines of groups, from this index on: one for each, but none for a group of B that is found again in A, whose events stand in the line
+-- of that group.
+pub data AreLinesFrom (titles : Bool) (a b : ZonedCalendar) (groups : List Group) (found : FoundAgain) : ℕ → List ReportLine → Type 0 where
+  end : (n : ℕ) → length groups ≤ n → AreLinesFrom titles a b groups found n []
+  passed : (n : ℕ) (in_a : Found) (lines : List ReportLine) → slice_get found.b.items n ≡ Some (Some in_a)
+      → AreLinesFrom titles a b groups found (n + 1) lines → AreLinesFrom titles a b groups found n lines
+  line : (n : ℕ) (in_b : Option Found) (line : ReportLine) (lines : List ReportLine) → slice_get found.b.items n ≡ Some None
+      → slice_get found.a.items n ≡ Some in_b → IsLineAt titles a b groups n in_b line → AreLinesFrom titles a b groups found (n + 1) lines
+      → AreLinesFrom titles a b groups found n (line ∷ lines)
 
--- entries have as many runs of one key
-pub data IsRunCount : List Entry → ℕ → Type 0 where
-  none : IsRunCount [] 0
-  next : (entries run : List Entry) (first : Entry) (count : ℕ) → IsRunAt entries first run → IsRunCount (drop (length run) entries) count
-      → IsRunCount entries (1 + count)
-
--- the lines of entries, run by run of one key
-pub data AreLinesOf (titles : Bool) (a b : ZonedCalendar) : List Entry → List ReportLine → Type 0 where
-  none : AreLinesOf titles a b [] []
-  next : (entries run : List Entry) (first : Entry) (line : ReportLine) (lines : List ReportLine)
-      → IsRunAt entries first run → IsLineOf titles a b first.key run line → AreLinesOf titles a b (drop (length run) entries) lines
-      → AreLinesOf titles a b entries (line ∷ lines)
+-- Each key of either calendar is in one group, in their order, but one that is only a place in each file in two. Each group has one line, but
+-- two groups that are found to be the same events have one together. Each line says what is so of its events, and how they are read, with
+-- their title if titles are asked for. If events are to be found by their UID alone, none is found again under another key.
+pub record IsReport (by_uid titles : Bool) (a b : ZonedCalendar) (lines : List ReportLine) : Type 0 where
+  pub by_key : List Group
+  pub groups : List Group
+  pub found : FoundAgain
+  pub are_by_key : AreGroups a.keys b.keys by_key
+  pub are_groups : ArePartsIf by_uid by_key groups
+  pub are_found : AreFoundIf by_uid a b groups found
+  pub are_lines : AreLinesFrom titles a b groups found 0 lines
+  pub printable : All (λ (line : ReportLine). IsPrintableSaid line.said) lines

@@ -1,5 +1,5 @@
 -- What is shown of the events that are printed by one name.
-use Rattle.std.specs.Prelude.{◌≡◌, ◌⊎◌, ⊤, ℕ, ◌+◌, ℤ, Bool, true, false, if◌then◌else◌, bytes_eq, List, [], ◌∷◌, ◌++◌, codes, Option, None, Some, Ok}
+use Rattle.std.specs.Prelude.{◌≡◌, ◌⊎◌, ⊤, ℕ, ◌+◌, ℤ, Bool, false, ◌||◌, if◌then◌else◌, bytes_eq, List, [], ◌∷◌, ◌++◌, codes, position, slice_get, Option, None, Some, Ok}
 use Rattle.std.specs.List.{list_all}
 use Rattle.rr_differ.specs.Further.{IsFurther}
 use Rattle.rr_differ.specs.declared.further.Further.{Further}
@@ -17,7 +17,14 @@ use Rattle.rr_title.specs.Title.{title_text}
 use Rattle.rr_trip.specs.Grid.{HasPicture, IsPictureOf}
 use Rattle.rr_trip.specs.Judged.{IsFoldOf}
 use Rattle.rr_trip.specs.Printed.{asked_text, further_text, key_text, said_line}
-use Rattle.rr_trip.specs.Report.{indexes_from, stated_in, title_by, title_if}
+use Rattle.rr_groups.specs.Groups.{AreGroups}
+use Rattle.rr_groups.specs.declared.group.Group.{Group}
+use Rattle.rr_trip.specs.Found.{AreFoundIf}
+use Rattle.rr_trip.specs.Parts.{ArePartsIf}
+use Rattle.rr_trip.specs.Report.{IsSubject, Subject, stated_in, title_by, title_if}
+use Rattle.rr_trip.specs.declared.found.Found.{Found}
+use Rattle.rr_trip.specs.declared.found.FoundAgain.{FoundAgain}
+use Rattle.rr_trip.specs.declared.report.Partner.{Partner}
 use Rattle.rr_trip.specs.Pairs.{IsSaidOfJudged, days_b, marks_of_judged}
 use Rattle.rr_trip.specs.Said.{IsSaid, marks_said}
 use Rattle.rr_trip.specs.Zoned.{Meaning, ZonedCalendar}
@@ -36,20 +43,6 @@ use Rattle.rr_trip.specs.declared.shown.Shown.{Shown}
 abbrev pub is_key_named : List ℕ → Key → Bool
 is_key_named name key = bytes_eq (key_text key) name
 
--- the index of an event, if its key is printed so
-abbrev pub named_part : List ℕ → Key → ℕ → List ℕ
-named_part name key index = if is_key_named name key then index ∷ [] else []
-
--- both calendars have no such event
-abbrev pub are_none : List ℕ → List ℕ → Bool
-are_none [] [] = true
-are_none [] (j ∷ js) = false
-are_none (i ∷ is) js = false
-
--- the indexes of the events of these keys whose key is printed so
-abbrev pub indexes_named : List ℕ → List Key → List ℕ
-indexes_named name keys = indexes_from (is_key_named name) 0 keys
-
 -- ---- the name that is shown
 
 -- a title, which is not empty, is printed as this name
@@ -66,25 +59,55 @@ abbrev pub keys_titled : List ℕ → (ℕ → List ℕ) → ℕ → List Key �
 keys_titled name titles n [] = []
 keys_titled name titles n (k ∷ ks) = titled_part name (titles n) k ++ keys_titled name titles (n + 1) ks
 
--- the one key that all of them are, if there is one
-abbrev pub one_key : List Key → Option Key
-one_key [] = None
-one_key (key ∷ keys) = if list_all (is_same_key key) keys then Some key else None
+-- the keys of the events of both calendars whose title is printed so
+abbrev pub keys_with_title : ZonedCalendar → ZonedCalendar → List ℕ → List Key
+keys_with_title a b name = keys_titled name a.titles 0 a.keys ++ keys_titled name b.titles 0 b.keys
 
--- the name of a key as it is printed; without a key this one
-abbrev pub name_of : List ℕ → Option Key → List ℕ
-name_of name None = name
-name_of name (Some key) = key_text key
+-- ---- which line is shown
 
--- the name that is shown if no key of A and none of B is printed as the one that was asked for: that of the one key whose events have
--- it as their title
-abbrev pub name_by_title : List Key → (ℕ → List ℕ) → List Key → (ℕ → List ℕ) → List ℕ → List ℕ
-name_by_title a titles_a b titles_b name = name_of name (one_key (keys_titled name titles_a 0 a ++ keys_titled name titles_b 0 b))
+-- the group in whose line the events of a group stand, by the group of A that it is found again as
+abbrev pub line_by : ℕ → Option (Option Found) → ℕ
+line_by n (Some (Some found)) = found.index
+line_by n (Some None) = n
+line_by n None = n
 
--- the name that is shown: the one that was asked for, if a key is printed so
-abbrev pub shown_name : List Key → (ℕ → List ℕ) → List Key → (ℕ → List ℕ) → List ℕ → List ℕ
-shown_name a titles_a b titles_b name =
-    if are_none (indexes_named name a) (indexes_named name b) then name_by_title a titles_a b titles_b name else name
+-- the group in whose line the events of a group stand: the one in A that is found to be the same events, otherwise the group itself
+abbrev pub line_of : FoundAgain → ℕ → ℕ
+line_of found n = line_by n (slice_get found.b.items n)
+
+-- the group has this key
+abbrev pub has_key : Key → Option Group → Bool
+has_key key None = false
+has_key key (Some group) = is_same_key group.key key
+
+-- the group of B that a group of A is found again as has this key
+abbrev pub has_partner_key : List Group → Key → Option (Option Found) → Bool
+has_partner_key groups key (Some (Some found)) = has_key key (slice_get groups found.index)
+has_partner_key groups key (Some None) = false
+has_partner_key groups key None = false
+
+-- the line of a group of this index is that of a key
+abbrev pub is_line_of_key : List Group → FoundAgain → ℕ → Key → Bool
+is_line_of_key groups found n key = has_key key (slice_get groups n) || has_partner_key groups key (slice_get found.a.items n)
+
+-- the line of a group, if it is the line of all these keys
+abbrev pub line_of_all : List Group → FoundAgain → List Key → Option ℕ → Option ℕ
+line_of_all groups found keys None = None
+line_of_all groups found keys (Some n) = if list_all (is_line_of_key groups found (line_of found n)) keys then Some (line_of found n) else None
+
+-- the line that is that of all keys, if there is one
+abbrev pub line_of_keys : List Group → FoundAgain → List Key → Option ℕ
+line_of_keys groups found [] = None
+line_of_keys groups found (key ∷ keys) = line_of_all groups found keys (position (λ (group : Group). is_same_key group.key key) groups)
+
+-- the line of the group of this index, otherwise the line of these keys
+abbrev pub line_or : List Group → FoundAgain → List Key → Option ℕ → Option ℕ
+line_or groups found titled (Some n) = Some (line_of found n)
+line_or groups found titled None = line_of_keys groups found titled
+
+-- The line that is shown: that of the key that is printed as the name; if no key is, the one line of all events whose title is printed so.
+abbrev pub shown_line : List Group → FoundAgain → List ℕ → List Key → Option ℕ
+shown_line groups found name titled = line_or groups found titled (position (λ (group : Group). is_key_named name group.key) groups)
 
 -- ---- how it ends
 
@@ -166,39 +189,50 @@ IsPictureOfJudged (judged.Compared pair) text = IsToldBy pair.local (sketch pair
 
 -- ---- what is shown
 
--- what is shown of a key that is printed so, by what is known of it before its zones are looked at, with this title
-pub record IsShownBy (means_a means_b : Meaning) (judged : Judged) (title : Option (List ℕ)) (name : List ℕ) (shown : Shown) : Type 0 where
+-- what is shown of events, by what is known of them before their zones are looked at, with this title
+pub record IsShownBy (means_a means_b : Meaning) (judged : Judged) (key : Key) (partner : Option Partner) (title : Option (List ℕ)) (shown : Shown) : Type 0 where
   pub said : Said
   pub more : List ℕ
   pub is_said : IsSaidOfJudged means_a means_b judged said
   pub tells : shown.said ≡ Some said
   pub status : shown.status ≡ said_status said
-  pub text : shown.text.items ≡ said_line name said (marks_of_judged judged) title ++ more
+  pub text : shown.text.items ≡ said_line key partner said (marks_of_judged judged) title ++ more
   pub picture : IsPictureOfJudged judged more
 
--- the first line that is shown says what is so of the events of these indexes in A and in B, with the title of the first of them if titles
--- are asked for, and behind it stands the picture
-pub record IsShownSaid (titles : Bool) (a b : ZonedCalendar) (is js : List ℕ) (name : List ℕ) (shown : Shown) : Type 0 where
+-- the first line that is shown says what is so of the events of a line in A and in B, with the title of the first of them if titles are
+-- asked for, and behind it stands the picture
+pub record IsShownSaid (titles : Bool) (a b : ZonedCalendar) (subject : Subject) (shown : Shown) : Type 0 where
   pub said : Said
   pub more : List ℕ
-  pub is_said : IsSaid a.means b.means (stated_in a.stated is) (stated_in b.stated js) said
+  pub is_said : IsSaid a.means b.means (stated_in a.stated subject.a) (stated_in b.stated subject.b) said
   pub tells : shown.said ≡ Some said
   pub status : shown.status ≡ said_status said
   pub text :
       shown.text.items
-      ≡ said_line name said (marks_said (stated_in a.stated is) (stated_in b.stated js) said) (title_if titles (title_by a.titles b.titles is js)) ++ more
-  pub picture : IsPictureFor (stated_in a.stated is) (stated_in b.stated js) said more
+      ≡ said_line subject.key subject.partner said (marks_said (stated_in a.stated subject.a) (stated_in b.stated subject.b) said)
+      (title_if titles (title_by a.titles b.titles subject.a subject.b)) ++ more
+  pub picture : IsPictureFor (stated_in a.stated subject.a) (stated_in b.stated subject.b) said more
 
--- what is shown of the events of these indexes in A and in B, which have this name
-abbrev pub IsShownOf : Bool → ZonedCalendar → ZonedCalendar → List ℕ → List ℕ → List ℕ → Shown → Type 0
-IsShownOf titles a b [] [] name shown = IsUnknown name shown
-IsShownOf titles a b (i ∷ is) js name shown = IsShownSaid titles a b (i ∷ is) js name shown
-IsShownOf titles a b [] (j ∷ js) name shown = IsShownSaid titles a b [] (j ∷ js) name shown
+-- what is shown is the line of the group at this index
+pub record IsShownAt (titles : Bool) (a b : ZonedCalendar) (groups : List Group) (found : FoundAgain) (n : ℕ) (shown : Shown) : Type 0 where
+  pub in_b : Option Found
+  pub subject : Subject
+  pub at : slice_get found.a.items n ≡ Some in_b
+  pub is_subject : IsSubject groups n in_b subject
+  pub is_shown : IsShownSaid titles a b subject shown
 
--- what is shown of the events whose key is printed as a name
-abbrev pub IsShownNamed : Bool → ZonedCalendar → ZonedCalendar → List ℕ → Shown → Type 0
-IsShownNamed titles a b name shown = IsShownOf titles a b (indexes_named name a.keys) (indexes_named name b.keys) name shown
+-- what is shown is this line, or that there is none of the name
+abbrev pub IsShownLine : Bool → ZonedCalendar → ZonedCalendar → List Group → FoundAgain → List ℕ → Option ℕ → Shown → Type 0
+IsShownLine titles a b groups found name None shown = IsUnknown name shown
+IsShownLine titles a b groups found name (Some n) shown = IsShownAt titles a b groups found n shown
 
--- What is shown of the events of a name in two calendars: a key's as it is printed, otherwise the title of one key's events.
-abbrev pub IsShownIn : Bool → ZonedCalendar → ZonedCalendar → List ℕ → Shown → Type 0
-IsShownIn titles a b name shown = IsShownNamed titles a b (shown_name a.keys a.titles b.keys b.titles name) shown
+-- What is shown of the events of a name in two calendars, as in a report: the name is a key's as it is printed, otherwise the title of the
+-- events of one line.
+pub record IsShownIn (by_uid titles : Bool) (a b : ZonedCalendar) (name : List ℕ) (shown : Shown) : Type 0 where
+  pub by_key : List Group
+  pub groups : List Group
+  pub found : FoundAgain
+  pub are_by_key : AreGroups a.keys b.keys by_key
+  pub are_groups : ArePartsIf by_uid by_key groups
+  pub are_found : AreFoundIf by_uid a b groups found
+  pub is_shown : IsShownLine titles a b groups found name (shown_line groups found name (keys_with_title a b name)) shown

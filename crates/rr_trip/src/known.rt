@@ -93,7 +93,8 @@ fn put_index(
 }
 
 impl KnownNames {
-    fn new(alloc: Global) -> KnownNames
+    /// None were looked up yet.
+    pub fn new(alloc: Global) -> KnownNames
         ensures { result.zones.items ≡ [] }
     {
         KnownNames {
@@ -115,8 +116,8 @@ impl KnownNames {
         }
     }
 
-    // The index of a name, which is looked up if it was not.
-    fn index_of<N: ZoneNames>(
+    /// The index of a name, which is looked up if it was not.
+    pub fn index_of<N: ZoneNames>(
         &mut self,
         alloc: Global,
         names: &N,

@@ -1,5 +1,5 @@
 // Laws of what is said of a key, each the contract of a function that does nothing.
-ghost use Rattle.rr_trip.specs.Laws.{AlikeIsExact, EmptyHasNone, LengthIsExact};
+ghost use Rattle.rr_trip.specs.Laws.{AlikeIsExact, ByUidMatchesNone, EmptyHasNone, LengthIsExact};
 
 use rr_model::first_refusal_is_one;
 
@@ -20,4 +20,9 @@ pub fn empty_has_none()
 /// its occurrences are, and one of them has two lengths.
 pub fn length_is_exact()
     ensures { LengthIsExact }
+{}
+
+/// If events are to be found by their UID alone, no line of a report is of events that have another key in B.
+pub fn by_uid_matches_none()
+    ensures { ByUidMatchesNone }
 {}

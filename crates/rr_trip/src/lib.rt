@@ -2,28 +2,32 @@
 #![tactic(auto)]
 
 mod comparison;
-mod entry;
+mod features;
+mod found;
 mod grid;
 mod judge;
 mod known;
 mod laws;
 mod lengths;
+mod likeness;
 mod name;
 mod pair;
+mod parts;
 mod printing;
 mod report;
 mod said;
 mod same;
 mod shown;
+mod subject;
 mod title;
 mod verdict;
 mod watch;
 mod zones;
 
 pub use comparison::compare;
-pub use laws::{alike_is_exact, empty_has_none, length_is_exact};
+pub use laws::{alike_is_exact, by_uid_matches_none, empty_has_none, length_is_exact};
 pub use printing::{print, print_refusal};
-pub use report::{Counts, Report, ReportLine, Status, is_in_utc};
+pub use report::{Counts, Partner, Report, ReportLine, Status, is_in_utc};
 pub use said::{Ahead, Said, Zones};
 pub use shown::{Shown, show};
 pub use watch::{Unwatched, Watch};

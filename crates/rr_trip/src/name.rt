@@ -1,12 +1,14 @@
-// The name by which events are shown: as their key is printed, otherwise by their title.
-ghost use Rattle.std.specs.Prelude.{◌≡◌, ◌++◌, IfOk, OnOk, bytes_eq, option_map};
+// The line that is shown of a name: that of the key that is printed so, otherwise by its title.
+ghost use Rattle.std.specs.Prelude.{◌≡◌, ◌<◌, ◌++◌, IfOk, IfSome, OnOk, Some, bytes_eq, length, position};
 ghost use Rattle.std.specs.List.{list_all};
 ghost use Rattle.rr_seam.specs.Keys.{is_same_key};
 ghost use Rattle.rr_title.specs.Title.{title_text};
-ghost use Rattle.rr_trip.specs.Printed.{key_text};
-ghost use Rattle.rr_trip.specs.Shown.{are_none, indexes_named, is_key_named, is_titled, keys_titled, name_by_title, name_of, named_part, one_key, shown_name, titled_part};
+ghost use Rattle.rr_trip.specs.Found.{AreSound, IsWithin};
+ghost use Rattle.rr_trip.specs.Shown.{has_partner_key, is_key_named, is_line_of_key, is_titled, keys_titled, line_of, line_of_keys, shown_line, titled_part};
 
-use crate::printing::{push, push_key};
+use crate::found::{Found, FoundAgain};
+use crate::printing::push_key;
+use rr_groups::Group;
 use rr_model::NoMemory;
 use rr_seam::{EventFile, Key, compare_keys};
 use rr_title::push_title;
@@ -16,55 +18,23 @@ use std::alloc::Global;
 
 // Whether a key is printed so.
 fn is_named(alloc: Global, key: &Key, name: &[u8]) -> Result<bool, NoMemory>
-    ensures { IfOk result (λ b. b ≡ bytes_eq (key_text key.now) name.now) }
+    ensures { IfOk result (λ b. b ≡ is_key_named name.now key.now) }
 {
     let mut text = Vec::new(alloc);
     push_key(&mut text, key)?;
     Ok(text.as_slice() == name)
 }
 
-// Puts the index of an event if its key is printed so.
-fn put_named(
-    alloc: Global,
-    indexes: &mut Vec<usize>,
-    key: &Key,
-    index: usize,
-    name: &[u8],
-) -> Result<(), NoMemory>
-    ensures { OnOk result (indexes.new.items
-        ≡ indexes.old.items ++ named_part name.now key.now index) }
+// The index of the group whose key is printed so.
+fn index_named(alloc: Global, groups: &[Group], name: &[u8]) -> Result<Option<usize>, NoMemory>
+    ensures { IfOk result (λ index. index ≡ position (λ group. is_key_named name.now group.key) groups.now) }
 {
-    if is_named(alloc, key, name)? {
-        indexes.push(index)?;
+    for index in 0..groups.len() {
+        if is_named(alloc, &groups[index].key, name)? {
+            return Ok(Some(index));
+        }
     }
-    Ok(())
-}
-
-/// The indexes of the events of one calendar whose key is printed so.
-pub fn indexes_named<F: EventFile>(
-    alloc: Global,
-    file: &F,
-    name: &[u8],
-) -> Result<Vec<usize>, NoMemory>
-    ensures { IfOk result (λ indexes. indexes.items
-        ≡ indexes_named name.now (F.keys file.now)) }
-{
-    let mut indexes = Vec::new(alloc);
-    for index in 0..file.count() {
-        let key = file.key_at(alloc, index)?;
-        put_named(alloc, &mut indexes, &key, index, name)?;
-    }
-    Ok(indexes)
-}
-
-/// Whether there are no events in A and none in B.
-pub fn are_none(a: &[usize], b: &[usize]) -> bool
-    ensures { result ≡ are_none a.now b.now }
-{
-    match (a, b) {
-        ([], []) => true,
-        ([_, ..], _) | ([], [_, ..]) => false,
-    }
+    Ok(None)
 }
 
 // ---- by title
@@ -128,75 +98,105 @@ fn is_key(key: &Key, other: &Key) -> bool
     compare_keys(key, other).is_eq()
 }
 
-// Whether all are the same as this one.
-fn are_key(key: &Key, keys: &[Key]) -> bool
-    ensures { result ≡ list_all (is_same_key key.now) keys.now }
+// The index of the group of a key.
+fn index_of(groups: &[Group], key: &Key) -> Option<usize>
+    ensures { result ≡ position (λ group. is_same_key group.key key.now) groups.now }
 {
-    keys.iter().all(|other| is_key(key, other))
+    groups.iter().position(|group| is_key(&group.key, key))
 }
 
-// The one key that all of them are, if there is one.
-fn one_key(keys: &[Key]) -> Option<&Key>
-    ensures { option_map (λ key. key.now) result ≡ one_key keys.now }
+// ---- lines
+
+// The group in whose line the events of a group stand.
+fn line_of(found: &FoundAgain, index: usize) -> usize
+    requires { index < length found.now.b.items }
+    ensures { result ≡ line_of found.now index }
 {
-    match keys {
-        [] => None,
-        [key, others @ ..] => {
-            if are_key(key, others) {
-                Some(key)
-            } else {
-                None
-            }
-        }
+    match found.b[index] {
+        Some(found) => found.index,
+        None => index,
     }
 }
 
-// The name of a key as it is printed; without a key this one.
-fn name_of(alloc: Global, name: &[u8], key: Option<&Key>) -> Result<Vec<u8>, NoMemory>
-    ensures { IfOk result (λ text. text.items
-        ≡ name_of name.now (option_map (λ key. key.now) key.entry)) }
+// Whether the group of B that a group of A is found again as has this key.
+fn has_partner_key(groups: &[Group], found: Option<Found>, key: &Key) -> bool
+    requires { IsWithin (length groups.now) found }
+    ensures { result ≡ has_partner_key groups.now key.now (Some found) }
 {
-    let mut text = Vec::new(alloc);
-    match key {
-        Some(key) => push_key(&mut text, key)?,
-        None => push(&mut text, name)?,
+    match found {
+        Some(found) => is_key(&groups[found.index].key, key),
+        None => false,
     }
-    Ok(text)
 }
 
-// The name that is shown if no key is printed as this one: that of the one key whose events have it as their title.
-fn name_by_title<A: EventFile, B: EventFile>(
+// Whether the line of a group is that of a key.
+fn is_line_of_key(groups: &[Group], found: &FoundAgain, index: usize, key: &Key) -> bool
+    requires index { index < length groups.now }
+    requires sound { AreSound (length groups.now) found.now }
+    ensures { result ≡ is_line_of_key groups.now found.now index key.now }
+{
+    is_key(&groups[index].key, key) || has_partner_key(groups, found.a[index], key)
+}
+
+// Whether the line of a group is that of all these keys.
+fn is_line_of_all(groups: &[Group], found: &FoundAgain, index: usize, keys: &[Key]) -> bool
+    requires index { index < length groups.now }
+    requires sound { AreSound (length groups.now) found.now }
+    ensures { result ≡ list_all (is_line_of_key groups.now found.now index) keys.now }
+{
+    keys.iter()
+        .all(|key| is_line_of_key(groups, found, index, key))
+}
+
+// The line that is that of all keys, if there is one.
+fn line_of_keys(groups: &[Group], found: &FoundAgain, keys: &[Key]) -> Option<usize>
+    requires { AreSound (length groups.now) found.now }
+    ensures line { result ≡ line_of_keys groups.now found.now keys.now }
+    ensures within { IfSome result (λ index. index < length groups.now) }
+{
+    let (key, others) = keys.split_first()?;
+    let index = line_of(found, index_of(groups, key)?);
+    if is_line_of_all(groups, found, index, others) {
+        Some(index)
+    } else {
+        None
+    }
+}
+
+// The keys of the events of both calendars whose title is printed so.
+fn keys_with_title<A: EventFile, B: EventFile>(
     alloc: Global,
     a: &A,
     b: &B,
     name: &[u8],
-) -> Result<Vec<u8>, NoMemory>
-    ensures { IfOk result (λ text. text.items
-        ≡ name_by_title (A.keys a.now) (A.titles a.now) (B.keys b.now) (B.titles b.now) name.now) }
+) -> Result<Vec<Key>, NoMemory>
+    ensures { IfOk result (λ keys. keys.items ≡ keys_titled name.now (A.titles a.now) 0 (A.keys a.now)
+        ++ keys_titled name.now (B.titles b.now) 0 (B.keys b.now)) }
 {
     let mut keys = Vec::new(alloc);
     put_keys_titled(alloc, &mut keys, a, name)?;
     put_keys_titled(alloc, &mut keys, b, name)?;
-    name_of(alloc, name, one_key(&keys))
+    Ok(keys)
 }
 
-/// The name that is shown: the one that was asked for, if a key is printed so; otherwise that of the one key whose events have it
-/// as their title, as titles are printed.
-pub fn shown_name<A: EventFile, B: EventFile>(
+/// The index of the group whose line is shown: that of the key that is printed as the name; if no key is, the one line of all events whose
+/// title is printed so.
+pub fn shown_line<A: EventFile, B: EventFile>(
     alloc: Global,
     a: &A,
     b: &B,
+    groups: &[Group],
+    found: &FoundAgain,
     name: &[u8],
-) -> Result<Vec<u8>, NoMemory>
-    ensures { IfOk result (λ text. text.items
-        ≡ shown_name (A.keys a.now) (A.titles a.now) (B.keys b.now) (B.titles b.now) name.now) }
+) -> Result<Option<usize>, NoMemory>
+    requires { AreSound (length groups.now) found.now }
+    ensures line { IfOk result (λ line. line ≡ shown_line groups.now found.now name.now
+        (keys_titled name.now (A.titles a.now) 0 (A.keys a.now) ++ keys_titled name.now (B.titles b.now) 0 (B.keys b.now))) }
+    ensures within { IfOk result (λ line. IfSome line (λ index. index < length groups.now)) }
 {
-    let of_a = indexes_named(alloc, a, name)?;
-    let of_b = indexes_named(alloc, b, name)?;
-    if are_none(&of_a, &of_b) {
-        return name_by_title(alloc, a, b, name);
+    if let Some(index) = index_named(alloc, groups, name)? {
+        return Ok(Some(line_of(found, index)));
     }
-    let mut text = Vec::new(alloc);
-    push(&mut text, name)?;
-    Ok(text)
+    let keys = keys_with_title(alloc, a, b, name)?;
+    Ok(line_of_keys(groups, found, &keys))
 }

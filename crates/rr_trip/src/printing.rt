@@ -1,13 +1,15 @@
 // The lines of a report as they are printed.
-ghost use Rattle.std.specs.Prelude.{◌≡◌, ◌<◌, ◌++◌, All, IfOk, OnOk, codes};
+ghost use Rattle.std.specs.Prelude.{◌≡◌, ◌<◌, ◌++◌, All, IfOk, OnOk, codes, option_map};
 ghost use Rattle.std.specs.Fmt.{decimal};
 ghost use Rattle.rr_length.specs.Length.{length_text};
 ghost use Rattle.rr_text.specs.Printed.{IsPrintable};
-ghost use Rattle.rr_trip.specs.Printed.{IsPrintableFurther, asked_byte, asked_text, counts_text, event_refusal_text, file_refusal_line, further_text, has_number, is_difference, key_refusal_text, key_text, last_count_text, line_text, lines_text, marks_text, report_text, said_line, said_text, title_field, uid_byte, uid_text, word_if};
+ghost use Rattle.rr_trip.specs.Printed.{IsPrintableFurther, asked_byte, asked_text, counts_text, event_refusal_text, file_refusal_line, further_text, has_number, is_difference, key_refusal_text, key_text, last_counts_text, line_text, lines_text, marks_text, name_text, other_title_text, partner_text, report_text, said_line, said_text, title_field, uid_byte, uid_text, word_if};
 ghost use Rattle.rr_trip.specs.Said.{IsPrintableSaid};
+ghost use Rattle.rr_trip.specs.Subjects.{partner_in};
 
-use crate::report::{Counts, Report, ReportLine, is_equal, is_unsure};
+use crate::report::{Counts, Partner, Report, ReportLine, is_equal, is_unsure};
 use crate::said::Said;
+use crate::subject::SubjectPartner;
 use crate::verdict::push_compared;
 use rr_differ::Further;
 use rr_length::{OtherLength, push_length};
@@ -206,6 +208,39 @@ fn push_marks(out: &mut Vec<u8>, marks: Marks) -> Result<(), NoMemory>
     push_word(out, marks.day, b" day")
 }
 
+// Appends the key in B behind that in A, if it is another one.
+fn push_partner(out: &mut Vec<u8>, partner: Option<SubjectPartner>) -> Result<(), NoMemory>
+    ensures { OnOk result (out.new.items ≡ out.old.items ++ partner_text (option_map partner_in partner.entry)) }
+{
+    match partner {
+        None => Ok(()),
+        Some(partner) => {
+            push(out, b" = ")?;
+            push_key(out, partner.key)
+        }
+    }
+}
+
+// Appends a last word if the title in B is another one.
+fn push_other_title(out: &mut Vec<u8>, partner: Option<SubjectPartner>) -> Result<(), NoMemory>
+    ensures { OnOk result (out.new.items ≡ out.old.items ++ other_title_text (option_map partner_in partner.entry)) }
+{
+    match partner {
+        None => Ok(()),
+        Some(partner) => push_word(out, partner.has_other_title, b" title"),
+    }
+}
+
+// What the events of a line are called.
+fn name_of(alloc: Global, key: &Key, partner: Option<SubjectPartner>) -> Result<Vec<u8>, NoMemory>
+    ensures { IfOk result (λ name. name.items ≡ name_text key.now (option_map partner_in partner.entry)) }
+{
+    let mut name = Vec::new(alloc);
+    push_key(&mut name, key)?;
+    push_partner(&mut name, partner)?;
+    Ok(name)
+}
+
 // Appends a title as the last field of a line, between quotes; nothing if there is none.
 fn push_title_field(out: &mut Vec<u8>, title: &Option<Bytes>) -> Result<(), NoMemory>
     ensures { OnOk result (out.new.items ≡ out.old.items ++ title_field title.now) }
@@ -245,24 +280,41 @@ fn is_difference(said: Said) -> bool
     !is_equal(said) || is_unsure(said)
 }
 
-/// Appends the whole line of a key whose printed text is `name`: what is said of it, how its events are read, its title if there is
-/// one, and a line feed.
+/// Appends the whole line of events: what is said of them, how they are read, whether they are found again with another title, their title
+/// if there is one, and a line feed.
 #[tactic(auto, unfolding(crate::specs::Printed::said_line))]
 pub fn push_said_line(
     alloc: Global,
     out: &mut Vec<u8>,
-    name: &[u8],
+    key: &Key,
+    partner: Option<SubjectPartner>,
     said: Said,
     marks: Marks,
     title: &Option<Bytes>,
 ) -> Result<(), NoMemory>
     requires { IsPrintableSaid said }
-    ensures { OnOk result (out.new.items ≡ out.old.items ++ said_line name.now said marks title.now) }
+    ensures { OnOk result (out.new.items ≡ out.old.items
+        ++ said_line key.now (option_map partner_in partner.entry) said marks title.now) }
 {
-    push_said(alloc, out, name, said)?;
+    let name = name_of(alloc, key, partner)?;
+    push_said(alloc, out, &name, said)?;
     push_marks(out, marks)?;
+    push_other_title(out, partner)?;
     push_title_field(out, title)?;
     push(out, b"\n")
+}
+
+// The key in B of a line, as what a line is of has it.
+fn partner_of_line(partner: &Option<Partner>) -> Option<SubjectPartner<'_>>
+    ensures { option_map partner_in result ≡ partner.now }
+{
+    match partner {
+        None => None,
+        Some(partner) => Some(SubjectPartner {
+            key: &partner.key,
+            has_other_title: partner.has_other_title,
+        }),
+    }
 }
 
 // The line of a key, or nothing where it is left out.
@@ -276,9 +328,16 @@ fn push_line(
     ensures { OnOk result (out.new.items ≡ out.old.items ++ line_text only_differences line.now) }
 {
     if !only_differences || is_difference(line.said) {
-        let mut name = Vec::new(alloc);
-        push_key(&mut name, &line.key)?;
-        return push_said_line(alloc, out, &name, line.said, line.marks, &line.title);
+        let partner = partner_of_line(&line.partner);
+        return push_said_line(
+            alloc,
+            out,
+            &line.key,
+            partner,
+            line.said,
+            line.marks,
+            &line.title,
+        );
     }
     Ok(())
 }
@@ -300,10 +359,11 @@ fn push_lines(
 }
 
 // The last of the counts, and the end of their line.
-fn push_last_count(out: &mut Vec<u8>, alike: usize) -> Result<(), NoMemory>
-    ensures { OnOk result (out.new.items ≡ out.old.items ++ last_count_text alike) }
+fn push_last_counts(out: &mut Vec<u8>, alike: usize, matched: usize) -> Result<(), NoMemory>
+    ensures { OnOk result (out.new.items ≡ out.old.items ++ last_counts_text alike matched) }
 {
     push_numbered(out, b" alike ", alike as u64)?;
+    push_numbered(out, b" matched ", matched as u64)?;
     push(out, b"\n")
 }
 
@@ -318,7 +378,7 @@ fn push_counts(out: &mut Vec<u8>, counts: Counts) -> Result<(), NoMemory>
     push_numbered(out, b" only-B ", counts.only_b as u64)?;
     push_numbered(out, b" refused ", counts.refused as u64)?;
     push_numbered(out, b" zone ", counts.zone as u64)?;
-    push_last_count(out, counts.alike)
+    push_last_counts(out, counts.alike, counts.matched)
 }
 
 /// The report as it is printed: a line for each key, or, with `only_differences`, for each that is not equal or of which nobody

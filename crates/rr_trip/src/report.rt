@@ -1,16 +1,27 @@
 // What is said of each key of two calendars, and how many of each there are.
 ghost use Rattle.std.specs.Prelude.{◌≡◌};
-ghost use Rattle.rr_trip.specs.Counts.{count_said, counts_of, differs, is_alike, is_counted, is_equal, is_in_utc, is_only, is_refused, is_unsure, is_utc, status_of};
+ghost use Rattle.rr_trip.specs.Counts.{count_matched, count_said, counts_of, differs, is_alike, is_counted, is_equal, is_in_utc, is_only, is_refused, is_unsure, is_utc, status_of};
 
 use crate::said::{Said, Zones};
 use rr_model::{Bytes, Refusal, Side, Verdict};
 use rr_seam::{Key, KeyRefusal, Marks};
 
+/// The key of events in B that have another one in A.
+#[derive(Drop)]
+pub struct Partner {
+    /// The key.
+    pub key: Key,
+    /// Whether their title is another one too: they are found again by their first occurrences alone.
+    pub has_other_title: bool,
+}
+
 /// What is said of one key.
 #[derive(Drop)]
 pub struct ReportLine {
-    /// The key.
+    /// The key; if its events have another one in B, the key in A.
     pub key: Key,
+    /// The key in B, if it is another one.
+    pub partner: Option<Partner>,
     /// What is said of it.
     pub said: Said,
     /// How its events are read in A or in B, if they are compared, and at odds with RFC 5545.
@@ -45,6 +56,8 @@ pub struct Counts {
     pub zone: usize,
     /// Those that both calendars refuse and state in the same words: they are not among the refused ones.
     pub alike: usize,
+    /// Those that are found again in B under another key: they are counted above too, each pair once.
+    pub matched: usize,
 }
 
 /// How a comparison ends.
@@ -181,6 +194,13 @@ fn count_said(lines: &[ReportLine], counted: Counted) -> usize
         .count()
 }
 
+// How many lines are of events that have another key in B than in A.
+fn count_matched(lines: &[ReportLine]) -> usize
+    ensures { result ≡ count_matched lines.now }
+{
+    lines.iter().filter(|line| line.partner.is_some()).count()
+}
+
 impl Report {
     /// How many keys are refused for a moment in UTC beside local time.
     pub fn in_utc_count(&self) -> usize
@@ -203,6 +223,7 @@ impl Report {
             refused: count_said(lines, Counted::Refused),
             zone: count_said(lines, Counted::Unsure),
             alike: count_said(lines, Counted::Alike),
+            matched: count_matched(lines),
         }
     }
 }

@@ -1,23 +1,29 @@
 // What is said of the events that are printed by one name, and where they differ.
-ghost use Rattle.std.specs.Prelude.{◌≡◌, IfOk};
+ghost use Rattle.std.specs.Prelude.{◌≡◌, ◌++◌, IfOk, length, option_map};
 ghost use Rattle.rr_days.specs.Sequence.{sketch};
 ghost use Rattle.rr_seam.specs.Stated.{calendar_by};
+ghost use Rattle.rr_trip.specs.Found.{AreSound};
 ghost use Rattle.rr_trip.specs.Pairs.{IsPair, IsSound, days_b};
-ghost use Rattle.rr_trip.specs.Shown.{IsPictureOfJudged, IsShownBy, IsShownIn, IsShownNamed, IsTold, IsToldBy, IsUnknown, equal_status, said_status};
+ghost use Rattle.rr_trip.specs.Shown.{IsPictureOfJudged, IsShownBy, IsShownIn, IsShownLine, IsShownSaid, IsTold, IsToldBy, IsUnknown, equal_status, keys_titled, said_status, shown_line};
+ghost use Rattle.rr_trip.specs.Subjects.{partner_in, subject_in};
 ghost use Rattle.rr_trip.specs.Zoned.{zoned};
 
+use crate::found::{FoundAgain, found_again};
 use crate::grid::picture;
 use crate::known::KnownZones;
-use crate::name::{are_none, indexes_named, shown_name};
+use crate::name::shown_line;
 use crate::pair::{Judged, KeyPair, judge_key};
+use crate::parts::parts_if;
 use crate::printing::{push, push_asked, push_further, push_said_line};
 use crate::report::Status;
 use crate::said::{Said, Zones};
+use crate::subject::{LineSubject, SubjectPartner, subject_of};
 use crate::title::title_of;
 use crate::zones::said_of;
 use rr_differ::further_differences;
+use rr_groups::{Group, groups_of, keys_of};
 use rr_model::{Bytes, NoMemory, Verdict, day_part};
-use rr_seam::EventFile;
+use rr_seam::{EventFile, Key};
 use rr_true::ZoneNames;
 use std::alloc::Global;
 
@@ -110,23 +116,24 @@ fn unknown_name(alloc: Global, name: &[u8]) -> Result<Shown, NoMemory>
     })
 }
 
-// What is said of the events of a key that is printed so, of which a calendar has one, with this title.
-fn show_key<M: ZoneNames, N: ZoneNames>(
+// What is said of the events of a line, with this title.
+fn show_subject<M: ZoneNames, N: ZoneNames>(
     alloc: Global,
     names_a: &M,
     names_b: &N,
     judged: &Judged,
+    key: &Key,
+    partner: Option<SubjectPartner>,
     title: &Option<Bytes>,
-    name: &[u8],
 ) -> Result<Shown, NoMemory>
     requires { IsSound judged.now }
     ensures { IfOk result (IsShownBy (M.meaning names_a.now) (N.meaning names_b.now) judged.now
-        title.now name.now) }
+        key.now (option_map partner_in partner.entry) title.now) }
 {
     let mut known = KnownZones::new(alloc);
     let said = said_of(alloc, &mut known, names_a, names_b, judged)?;
     let mut text = Vec::new(alloc);
-    push_said_line(alloc, &mut text, name, said, judged.marks(), title)?;
+    push_said_line(alloc, &mut text, key, partner, said, judged.marks(), title)?;
     let picture = picture_of(alloc, judged)?;
     push(&mut text, &picture)?;
     Ok(Shown {
@@ -136,35 +143,67 @@ fn show_key<M: ZoneNames, N: ZoneNames>(
     })
 }
 
-// What is shown of the events of two calendars whose key is printed by this name.
-fn show_named<A: EventFile, B: EventFile, M: ZoneNames, N: ZoneNames>(
+// What is shown of the events of a line.
+fn show_line<A: EventFile, B: EventFile, M: ZoneNames, N: ZoneNames>(
     alloc: Global,
     a: &A,
     names_a: &M,
     b: &B,
     names_b: &N,
+    subject: LineSubject,
+    titles: bool,
+) -> Result<Shown, NoMemory>
+    ensures { IfOk result (IsShownSaid titles
+        (zoned (calendar_by (A.keys a.now) (A.stated a.now) (A.titles a.now)) (M.meaning names_a.now))
+        (zoned (calendar_by (B.keys b.now) (B.stated b.now) (B.titles b.now)) (N.meaning names_b.now))
+        (subject_in subject.entry)) }
+{
+    let judged = judge_key(alloc, a, subject.a, b, subject.b)?;
+    let title = title_of(alloc, titles, a, subject.a, b, subject.b)?;
+    show_subject(
+        alloc,
+        names_a,
+        names_b,
+        &judged,
+        subject.key,
+        subject.partner,
+        &title,
+    )
+}
+
+// What is shown of a name, among groups of which these are found again.
+fn show_among<A: EventFile, B: EventFile, M: ZoneNames, N: ZoneNames>(
+    alloc: Global,
+    a: &A,
+    names_a: &M,
+    b: &B,
+    names_b: &N,
+    groups: &[Group],
+    found: &FoundAgain,
     name: &[u8],
     titles: bool,
 ) -> Result<Shown, NoMemory>
-    ensures { IfOk result (IsShownNamed titles
+    requires { AreSound (length groups.now) found.now }
+    ensures { IfOk result (IsShownLine titles
         (zoned (calendar_by (A.keys a.now) (A.stated a.now) (A.titles a.now)) (M.meaning names_a.now))
         (zoned (calendar_by (B.keys b.now) (B.stated b.now) (B.titles b.now)) (N.meaning names_b.now))
-        name.now) }
+        groups.now found.now name.now (shown_line groups.now found.now name.now
+        (keys_titled name.now (A.titles a.now) 0 (A.keys a.now) ++ keys_titled name.now (B.titles b.now) 0 (B.keys b.now)))) }
 {
-    let of_a = indexes_named(alloc, a, name)?;
-    let of_b = indexes_named(alloc, b, name)?;
-    if are_none(&of_a, &of_b) {
-        return unknown_name(alloc, name);
+    match shown_line(alloc, a, b, groups, found, name)? {
+        None => unknown_name(alloc, name),
+        Some(index) => {
+            let subject = subject_of(groups, index, found.a[index]);
+            show_line(alloc, a, names_a, b, names_b, subject, titles)
+        }
     }
-    let judged = judge_key(alloc, a, &of_a, b, &of_b)?;
-    let title = title_of(alloc, titles, a, &of_a, b, &of_b)?;
-    show_key(alloc, names_a, names_b, &judged, &title, name)
 }
 
-/// What is said of the events of two calendars whose key is printed by this name, as in a report, with its title if titles are
+/// What is said of the events of two calendars whose key is printed by this name, as in a report, with their title if titles are
 /// asked for; and, if their local times differ, a picture of the month of the first that does and the two after it. If no key is
-/// printed so, the name may be the title, as it is printed, of the events of one key alone. Otherwise no event has the name, and
-/// that is said, with the name as it is printed.
+/// printed so, the name may be the title, as it is printed, of the events of one line alone. Otherwise no event has the name, and
+/// that is said, with the name as it is printed. Keys that one calendar alone has are looked for in the other, unless events are to be
+/// found by their UID alone; a pair is shown by either of its keys.
 pub fn show<A: EventFile, B: EventFile, M: ZoneNames, N: ZoneNames>(
     alloc: Global,
     a: &A,
@@ -172,13 +211,18 @@ pub fn show<A: EventFile, B: EventFile, M: ZoneNames, N: ZoneNames>(
     b: &B,
     names_b: &N,
     name: &[u8],
+    by_uid: bool,
     titles: bool,
 ) -> Result<Shown, NoMemory>
-    ensures { IfOk result (IsShownIn titles
+    ensures { IfOk result (IsShownIn by_uid titles
         (zoned (calendar_by (A.keys a.now) (A.stated a.now) (A.titles a.now)) (M.meaning names_a.now))
         (zoned (calendar_by (B.keys b.now) (B.stated b.now) (B.titles b.now)) (N.meaning names_b.now))
         name.now) }
 {
-    let name = shown_name(alloc, a, b, name)?;
-    show_named(alloc, a, names_a, b, names_b, &name, titles)
+    let keys_a = keys_of(alloc, a)?;
+    let keys_b = keys_of(alloc, b)?;
+    let by_key = groups_of(alloc, &keys_a, &keys_b)?;
+    let groups = parts_if(alloc, by_uid, by_key)?;
+    let found = found_again(alloc, a, names_a, b, names_b, &groups, by_uid)?;
+    show_among(alloc, a, names_a, b, names_b, &groups, &found, name, titles)
 }

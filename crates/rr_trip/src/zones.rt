@@ -344,8 +344,8 @@ fn are_name(name: &Bytes, names: &[Bytes]) -> bool
     names.iter().all(|other| is_name(name, other))
 }
 
-// The name of all zones of one side, if it is one: the empty name if none is stated.
-fn one_name(names: &[Bytes]) -> Option<&[u8]>
+/// The name of all zones of one side, if it is one: the empty name if none is stated.
+pub(crate) fn one_name(names: &[Bytes]) -> Option<&[u8]>
     ensures { option_map (λ name. name.now) result ≡ one_name names.now }
 {
     match names {
