@@ -16,14 +16,14 @@ ending_by request ending.Differs = tt
 ending_by request ending.Refused = tt
 
 module _ (request : Request) (x : Answer) where
-  of_both : (show : Option (List ℕ)) (only_differences titles : Bool) (a b : ZonedCalendar) → IsOfBoth show only_differences titles a b x
+  of_both : (show : Option (List ℕ)) (only_differences by_uid titles : Bool) (a b : ZonedCalendar) → IsOfBoth show only_differences by_uid titles a b x
       → IsEnding (Some (comparison request)) x.status
-  of_both None only_differences titles a b h = subst (λ (y : Answer). IsEnding (Some (comparison request)) y.status) (sym h.is) (ending_by request _)
-  of_both (Some name) only_differences titles a b h =
+  of_both None only_differences by_uid titles a b h = subst (λ (y : Answer). IsEnding (Some (comparison request)) y.status) (sym h.is) (ending_by request _)
+  of_both (Some name) only_differences by_uid titles a b h =
       subst (λ (y : Answer). IsEnding (Some (comparison request)) y.status) (sym h.is) (ending_by request h.shown.status)
 
   compared_with : (a : ZonedCalendar) (b : Result ZonedCalendar FileRefusal) → IsComparedWith request a b x → IsEnding (Some (comparison request)) x.status
-  compared_with a (Ok b) h = of_both request.show request.only_differences request.titles a b h
+  compared_with a (Ok b) h = of_both request.show request.only_differences request.by_uid request.titles a b h
   compared_with a (Err refusal) h = subst (λ (y : Answer). IsEnding (Some (comparison request)) y.status) (sym h) tt
 
   compared_by : (a b : Result ZonedCalendar FileRefusal) → IsCompared request a b x → IsEnding (Some (comparison request)) x.status

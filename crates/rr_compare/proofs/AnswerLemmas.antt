@@ -41,7 +41,7 @@ module _ (request : Request) (wanted : Result Calendar FileRefusal) (means : Lis
       → IsCompared request file b answer
   read_a a b is h = subst (λ (w : Result ZonedCalendar FileRefusal). IsCompared request w b answer) (sym (is_zoned a is)) h
 
-  pub read_b : (a : ZonedCalendar) (b : Calendar) → IsCalendar wanted b → IsOfBoth request.show request.only_differences request.titles a (zoned b means) answer
+  pub read_b : (a : ZonedCalendar) (b : Calendar) → IsCalendar wanted b → IsOfBoth request.show request.only_differences request.by_uid request.titles a (zoned b means) answer
       → IsComparedWith request a file answer
   read_b a b is h = subst (λ (w : Result ZonedCalendar FileRefusal). IsComparedWith request a w answer) (sym (is_zoned b is)) h
 
@@ -59,10 +59,12 @@ module _ (request : Request) (wanted : Result Calendar FileRefusal) (means : Lis
 
 -- ---- two calendars
 
-module _ (only_differences titles : Bool) (a b : ZonedCalendar) (answer : Answer) where
+module _ (only_differences by_uid titles : Bool) (a b : ZonedCalendar) (answer : Answer) where
   -- what is answered if no name is asked for, and if one is
-  pub none_of_both : (show : Option (List ℕ)) → show ≡ None → IsReported only_differences titles a b answer → IsOfBoth show only_differences titles a b answer
-  none_of_both show e h = subst (λ (s : Option (List ℕ)). IsOfBoth s only_differences titles a b answer) (sym e) h
+  pub none_of_both : (show : Option (List ℕ)) → show ≡ None → IsReported only_differences by_uid titles a b answer
+      → IsOfBoth show only_differences by_uid titles a b answer
+  none_of_both show e h = subst (λ (s : Option (List ℕ)). IsOfBoth s only_differences by_uid titles a b answer) (sym e) h
 
-  pub some_of_both : (show : Option (List ℕ)) (name : List ℕ) → show ≡ Some name → IsNamed name titles a b answer → IsOfBoth show only_differences titles a b answer
-  some_of_both show name e h = subst (λ (s : Option (List ℕ)). IsOfBoth s only_differences titles a b answer) (sym e) h
+  pub some_of_both : (show : Option (List ℕ)) (name : List ℕ) → show ≡ Some name → IsNamed name by_uid titles a b answer
+      → IsOfBoth show only_differences by_uid titles a b answer
+  some_of_both show name e h = subst (λ (s : Option (List ℕ)). IsOfBoth s only_differences by_uid titles a b answer) (sym e) h

@@ -63,22 +63,22 @@ utc_count (Some said) = if is_in_utc said then 1 else 0
 abbrev pub shown_answer : Shown → Answer
 shown_answer shown = record { status = status_by shown.status; bytes = shown.text.items; in_utc = utc_count shown.said }
 
--- the answer is the report of both calendars, with titles or without
-pub record IsReported (only_differences titles : Bool) (a b : ZonedCalendar) (answer : Answer) : Type 0 where
+-- the answer is the report of both calendars, whose events are found again by their UID alone or without it too, with titles or without
+pub record IsReported (only_differences by_uid titles : Bool) (a b : ZonedCalendar) (answer : Answer) : Type 0 where
   pub lines : List ReportLine
-  pub report : IsReport titles a b lines
+  pub report : IsReport by_uid titles a b lines
   pub is : answer ≡ report_answer only_differences lines
 
 -- the answer is what is shown of the events of a name in both calendars
-pub record IsNamed (name : List ℕ) (titles : Bool) (a b : ZonedCalendar) (answer : Answer) : Type 0 where
+pub record IsNamed (name : List ℕ) (by_uid titles : Bool) (a b : ZonedCalendar) (answer : Answer) : Type 0 where
   pub shown : Shown
-  pub shows : IsShownIn titles a b name shown
+  pub shows : IsShownIn by_uid titles a b name shown
   pub is : answer ≡ shown_answer shown
 
 -- what is answered over two calendars: the report, or what is shown of one name
-abbrev pub IsOfBoth : Option (List ℕ) → Bool → Bool → ZonedCalendar → ZonedCalendar → Answer → Type 0
-IsOfBoth None only_differences titles a b answer = IsReported only_differences titles a b answer
-IsOfBoth (Some name) only_differences titles a b answer = IsNamed name titles a b answer
+abbrev pub IsOfBoth : Option (List ℕ) → Bool → Bool → Bool → ZonedCalendar → ZonedCalendar → Answer → Type 0
+IsOfBoth None only_differences by_uid titles a b answer = IsReported only_differences by_uid titles a b answer
+IsOfBoth (Some name) only_differences by_uid titles a b answer = IsNamed name by_uid titles a b answer
 
 -- a fault of a file is answered so; to out of memory nothing is answered
 abbrev pub IsFaultAnswer : Side → FileFault → Answer → Type 0
@@ -87,7 +87,7 @@ IsFaultAnswer side file_fault.NoMemory answer = ⊥
 
 -- what is answered over the calendar A and the file B, which is a calendar or is refused
 abbrev pub IsComparedWith : Request → ZonedCalendar → Result ZonedCalendar FileRefusal → Answer → Type 0
-IsComparedWith request a (Ok b) answer = IsOfBoth request.show request.only_differences request.titles a b answer
+IsComparedWith request a (Ok b) answer = IsOfBoth request.show request.only_differences request.by_uid request.titles a b answer
 IsComparedWith request a (Err refusal) answer = answer ≡ refusal_answer B refusal
 
 -- What is answered over two files, each of which is a calendar or is refused: if A is refused nothing is said of B.

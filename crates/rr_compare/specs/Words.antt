@@ -8,14 +8,15 @@ use Rattle.rr_compare.specs.declared.words.Next.{Next}
 use Rattle.rr_compare.specs.declared.words.Next.TheVariants.{Word, Offset, Zones, Name}
 
 -- what is asked of two files: which they are, whether equal events are left out, whether lines have titles, whether what is at odds with
--- RFC 5545 is refused, the stated offset of both from UTC in seconds, the name of a file that defines further zones, and that of the only
--- event that is asked for
+-- RFC 5545 is refused, whether events are found again by their UID alone, the stated offset of both from UTC in seconds, the name of a file that
+-- defines further zones, and that of the only event that is asked for
 pub record Request : Type 0 where
   pub old : Operand
   pub new : Operand
   pub only_differences : Bool
   pub titles : Bool
   pub strict : Bool
+  pub by_uid : Bool
   pub offset : Option ℤ
   pub zones : Option (List ℕ)
   pub show : Option (List ℕ)
@@ -33,6 +34,7 @@ pub record Given : Type 0 where
   pub only_differences : Bool
   pub titles : Bool
   pub strict : Bool
+  pub by_uid : Bool
   pub offset : Option ℤ
   pub zones : Option (List ℕ)
   pub show : Option (List ℕ)
@@ -40,7 +42,7 @@ pub record Given : Type 0 where
 
 -- what is stated before the first word
 abbrev pub nothing_given : Given
-nothing_given = record { old = None; new = None; only_differences = false; titles = false; strict = false; offset = None; zones = None; show = None; next = Word }
+nothing_given = record { old = None; new = None; only_differences = false; titles = false; strict = false; by_uid = false; offset = None; zones = None; show = None; next = Word }
 
 -- an offset from UTC: hours after their sign, a colon, and minutes
 abbrev pub offset_in : List ℕ → Option ℤ
@@ -76,10 +78,11 @@ with_option given word =
     if bytes_eq word (codes "--differences") && not given.only_differences then Some (record given { only_differences = true })
     else (if bytes_eq word (codes "--titles") && not given.titles then Some (record given { titles = true })
     else (if bytes_eq word (codes "--strict") && not given.strict then Some (record given { strict = true })
+    else (if bytes_eq word (codes "--by-uid") && not given.by_uid then Some (record given { by_uid = true })
     else (if bytes_eq word (codes "--offset") && not (is_some given.offset) then Some (record given { next = Offset })
     else (if bytes_eq word (codes "--zones") && not (is_some given.zones) then Some (record given { next = Zones })
     else (if bytes_eq word (codes "--show") && not (is_some given.show) then Some (record given { next = Name })
-    else with_file given word)))))
+    else with_file given word))))))
 
 -- the words so far with one word more, by what the word before asks for; None where it is refused
 abbrev pub with_next : Next → Given → List ℕ → Option Given
@@ -132,6 +135,7 @@ request_by given old new =
       only_differences = given.only_differences;
       titles = given.titles;
       strict = given.strict;
+      by_uid = given.by_uid;
       offset = given.offset;
       zones = given.zones;
       show = given.show;

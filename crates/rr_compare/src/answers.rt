@@ -64,6 +64,7 @@ fn report_outcome(
 fn comparison_outcome<W: Watch>(
     alloc: Global,
     only_differences: bool,
+    by_uid: bool,
     titles: bool,
     a: &ReadFile,
     names_a: &Names,
@@ -71,10 +72,10 @@ fn comparison_outcome<W: Watch>(
     names_b: &Names,
     watch: &mut W,
 ) -> Result<Outcome, NoMemory>
-    ensures { IfOk result (λ x. IsReported only_differences titles (zoned_in a.now names_a.now)
-        (zoned_in b.now names_b.now) (outcome_is x)) }
+    ensures { IfOk result (λ x. IsReported only_differences by_uid titles
+        (zoned_in a.now names_a.now) (zoned_in b.now names_b.now) (outcome_is x)) }
 {
-    let report = compare(alloc, a, names_a, b, names_b, titles, watch)?;
+    let report = compare(alloc, a, names_a, b, names_b, by_uid, titles, watch)?;
     report_outcome(alloc, only_differences, &report)
 }
 
@@ -92,16 +93,26 @@ fn in_utc_count(said: Option<Said>) -> usize
 fn name_outcome(
     alloc: Global,
     name: &str,
+    by_uid: bool,
     titles: bool,
     a: &ReadFile,
     names_a: &Names,
     b: &ReadFile,
     names_b: &Names,
 ) -> Result<Outcome, NoMemory>
-    ensures { IfOk result (λ x. IsNamed name.now titles (zoned_in a.now names_a.now)
+    ensures { IfOk result (λ x. IsNamed name.now by_uid titles (zoned_in a.now names_a.now)
         (zoned_in b.now names_b.now) (outcome_is x)) }
 {
-    let shown = show(alloc, a, names_a, b, names_b, name.as_bytes(), titles)?;
+    let shown = show(
+        alloc,
+        a,
+        names_a,
+        b,
+        names_b,
+        name.as_bytes(),
+        by_uid,
+        titles,
+    )?;
     Ok(Outcome {
         status: status_by(shown.status),
         in_utc: in_utc_count(shown.said),
@@ -120,16 +131,18 @@ fn outcome_of_both<W: Watch>(
     watch: &mut W,
 ) -> Result<Outcome, NoMemory>
     ensures { IfOk result (λ x. IsOfBoth (request_in request.entry).show
-        request.entry.only_differences request.entry.titles (zoned_in a.now names_a.now) (zoned_in b.now names_b.now)
-        (outcome_is x)) }
+        request.entry.only_differences request.entry.by_uid request.entry.titles
+        (zoned_in a.now names_a.now) (zoned_in b.now names_b.now) (outcome_is x)) }
 {
+    let by_uid = request.by_uid;
+    let titles = request.titles;
     match request.show {
         None => {
             let only_differences = request.only_differences;
-            let titles = request.titles;
             comparison_outcome(
                 alloc,
                 only_differences,
+                by_uid,
                 titles,
                 a,
                 names_a,
@@ -138,7 +151,7 @@ fn outcome_of_both<W: Watch>(
                 watch,
             )
         }
-        Some(name) => name_outcome(alloc, name, request.titles, a, names_a, b, names_b),
+        Some(name) => name_outcome(alloc, name, by_uid, titles, a, names_a, b, names_b),
     }
 }
 

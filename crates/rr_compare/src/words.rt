@@ -8,13 +8,13 @@ use rr_text::offset_of;
 
 /// What is said of words that ask nothing.
 pub const USAGE: &[u8] =
-    b"usage: rr-calendars OLD NEW [--differences] [--titles] [--strict] [--offset +HH:MM] [--zones FILE] [--show UID]\n";
+    b"usage: rr-calendars OLD NEW [--differences] [--titles] [--strict] [--by-uid] [--offset +HH:MM] [--zones FILE] [--show UID]\n";
 
 /// The page of help.
 pub const HELP: &[u8] =
     b"rr-calendars says of two calendar files whether each event survived the trip between them, for all years to come.
 
-  rr-calendars OLD NEW [--differences] [--titles] [--strict] [--offset +HH:MM] [--zones FILE] [--show UID]
+  rr-calendars OLD NEW [--differences] [--titles] [--strict] [--by-uid] [--offset +HH:MM] [--zones FILE] [--show UID]
   rr-calendars --help, this page, or --version, the release
 
 OLD and NEW are calendar files of at most 64 MiB; one of the two may be - for standard input. Before a name its language may stand:
@@ -30,6 +30,12 @@ Events are found again by their UID, those of Graph by their iCalUId. There is a
   length UID 3600 900                 the same occurrences, of which one is so many seconds long in OLD, and so many in NEW (1d: days)
   alike UID A REASON LINE             neither file's event can be read, and both files state it in the same words
 
+An event whose UID the other file lacks, or that has none, is found again without it, among those of the other file that are left so: by
+its title and its first 64 occurrences, then by its title and the first one alone, then by the 64 alone, if one event in each file is left
+with them; by its title alone if it cannot be read or nothing occurs in it. Of several that are the same so the first goes with the first, the second with
+the second, if both files have as many. A pair is compared as any event is, in one line with both UIDs, as equal UID = UID-IN-NEW; title
+stands behind it if the titles differ. --by-uid finds events by their UID alone, and those without one by their line.
+
 Times are compared as moments if the zones of both sides are defined: by a VTIMEZONE of the same file, of the other one, or of FILE,
 where Windows' names stand for those of tzdata. Behind a moment stands then how far local time is ahead of UTC, or Z. Otherwise
 local times are compared. Behind a line stands zone if local times are equal, and the zones are not, or are not known to be.
@@ -40,13 +46,15 @@ RECURRENCE-ID that is a date stands for the occurrence of that day. --strict ref
 that of OLD if it has the event, otherwise that of NEW; bytes of it that are not visible are printed as x and two digits.
 Moments of UTC beside local time are read by the zones that the file defines; --offset states local time less UTC, for those that no
 zone turns, and for events without a zone.
-The last line counts them all. On a terminal a comparison of more than a second says how far it is.
+The last line counts them all, and as matched those that were found without their UID. On a terminal a comparison of more than a second
+says how far it is.
 
 --show UID prints the line of this event alone, and below it, if it differs, how many differences more there are and until when
 (more 51 until MOMENT, more 0, more for ever, more 9999 at least), and of the month of the first one and the two after it those that
 have a difference. Behind the number of each day, Monday first, stands = if both have it at the same times, x if both have it at
 others, A or B if this file alone has it, . if none has; then the usual times, and the days with others. UID is as it is printed
-here; if it is none, but the title of the events of one UID alone, that one is shown. Of others it prints unknown UID, status 2.
+here, of a pair either; if it is none, but the title of the events of one UID or pair alone, that is shown. Of others it prints unknown
+UID, status 2.
 
 The status is 0 if all are equal or alike, 1 if one differs, in length too, or stands in one file alone, 2 if none does but one is refused, or is
 equal with zone behind it, 3 for other words, 4 if a file could not be read, 5 if the output could not be written, 6 out of memory,
@@ -66,6 +74,8 @@ pub struct Request<'a> {
     pub titles: bool,
     /// Whether what is at odds with RFC 5545 is refused, and not read as calendars show it.
     pub strict: bool,
+    /// Whether events are found again by their UID alone.
+    pub by_uid: bool,
     /// The stated offset of a file that has none of its own, local time less UTC, in seconds.
     pub offset: Option<i32>,
     /// The name of a file that defines further zones, which is not empty.
@@ -106,6 +116,7 @@ struct Given<'a> {
     only_differences: bool,
     titles: bool,
     strict: bool,
+    by_uid: bool,
     offset: Option<i32>,
     zones: Option<&'a str>,
     show: Option<&'a str>,
@@ -208,6 +219,10 @@ fn with_option<'a>(given: Given<'a>, word: &'a str) -> Option<Given<'a>>
             strict: true,
             ..given
         }),
+        "--by-uid" if !given.by_uid => Some(Given {
+            by_uid: true,
+            ..given
+        }),
         "--offset" if given.offset.is_none() => Some(Given {
             next: Next::Offset,
             ..given
@@ -246,6 +261,7 @@ fn given_of<'a>(words: &[&'a str]) -> Option<Given<'a>>
         only_differences: false,
         titles: false,
         strict: false,
+        by_uid: false,
         offset: None,
         zones: None,
         show: None,
@@ -298,6 +314,7 @@ fn request_of<'a>(given: Given<'a>) -> Option<Request<'a>>
         only_differences: given.only_differences,
         titles: given.titles,
         strict: given.strict,
+        by_uid: given.by_uid,
         offset: given.offset,
         zones: given.zones,
         show: given.show,
@@ -315,7 +332,7 @@ fn is_only(word: &str, words: &[&str]) -> bool
 }
 
 /// What the words ask, where they ask something: `--help` or `--version` alone, or two files, with `--differences`, `--titles`, `--strict`,
-/// `--offset`, `--zones` and `--show` at any place.
+/// `--by-uid`, `--offset`, `--zones` and `--show` at any place.
 #[tactic(auto, unfolding(crate::specs::Words::asked_of))]
 pub fn parse<'a>(words: &[&'a str]) -> Option<Asked<'a>>
     ensures { option_map asked_in result ≡ asked_of_words words.now }

@@ -87,6 +87,7 @@ fn note_on_option(alloc: Global, word: &str) -> Result<Option<String>, AllocErro
         "--differences" => Ok(None),
         "--titles" => Ok(None),
         "--strict" => Ok(None),
+        "--by-uid" => Ok(None),
         "--offset" => Ok(None),
         "--zones" => Ok(None),
         "--show" => Ok(None),
@@ -95,7 +96,7 @@ fn note_on_option(alloc: Global, word: &str) -> Result<Option<String>, AllocErro
         _ => {
             let word = shown(alloc, word)?;
             Ok(Some(format!(in alloc;
-                "{word} is no option: these are --differences, --titles, --strict, --offset, --zones, --show and --help"
+                "{word} is no option: these are --differences, --titles, --strict, --by-uid, --offset, --zones, --show and --help"
             )?))
         }
     }
