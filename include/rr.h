@@ -53,8 +53,9 @@ enum rr_status {
 uint32_t rr_answer(const uint8_t *words, size_t words_length, const uint8_t *a, size_t a_length, const uint8_t *b, size_t b_length,
                    uint8_t *out, size_t out_length, uint64_t *length);
 
-/* Compares two whole calendars, as the program rr-calendars does: each event is found again by its UID. A calendar is iCalendar (RFC 5545), a list
- * of events of Microsoft Graph or vCalendar 1.0, as the word for its file states, "graph:a", or otherwise its content tells.
+/* Compares two whole calendars, as the program rr-calendars does: each event is found again by its UID, and one whose UID the other calendar lacks by
+ * its title and its occurrences, unless the word --by-uid stands there. A calendar is iCalendar (RFC 5545), a list of events of Microsoft Graph or
+ * vCalendar 1.0, as the word for its file states, "graph:a", or otherwise its content tells.
  *
  * words, words_length   the words of that program's command line, in the same form: "a\0b\0--differences" has length 17. The first two are for the
  *                       names of files, and stand for none: they are not empty, do not begin with "--", and are not both "-".
@@ -182,11 +183,11 @@ static inline int rr_read_clash(const char *line, size_t length, struct rr_momen
            rr_read_byte(&line, &length, ' ') && rr_read_moment(&line, &length, b) && length == 0;
 }
 
-/* What the report on two calendars says of the events of one UID. */
+/* What the report on two calendars says of the events of one UID, or of a pair of two. */
 enum rr_said {
     RR_SAID_EQUAL,   /* both calendars have the same occurrences of it, at the same moments, for ever */
     RR_SAID_DIFFERS, /* they do not */
-    RR_SAID_ONLY,    /* one calendar alone has events of it */
+    RR_SAID_ONLY,    /* one calendar alone has events of it, which are not found again without it either */
     RR_SAID_REFUSED, /* its events in one calendar can't be compared */
     RR_SAID_ALIKE,   /* its events can't be compared, and both calendars state them in the same words: the trip has changed nothing of them, so it
                       * is no fault */
@@ -202,8 +203,11 @@ struct rr_length {
 /* A line of that report. Its texts are parts of the line, so no zero byte stands behind them. */
 struct rr_report_line {
     enum rr_said said;
-    const char *key;         /* the UID as it is printed, or "line 12" for an event without one, of Graph "event 12" */
+    const char *key;         /* the UID as it is printed, or "line 12" for an event without one, of Graph "event 12"; of a pair that in A */
     size_t key_length;
+    const char *partner;     /* if its event was found again without its UID: its UID in B, likewise. NULL otherwise */
+    size_t partner_length;
+    int has_other_title;     /* it was found so, and has another title in B */
     enum rr_side side;       /* unless equal: whose occurrence it is, which calendar has it, or in which it is refused; after RR_SAID_ALIKE: RR_A */
     struct rr_moment moment; /* after RR_SAID_DIFFERS, unless is_floating: the first occurrence that only one of them has, in local time of that side */
     int has_offset;          /* moments of UTC were compared: it is known how far that local time is ahead of UTC */
@@ -241,16 +245,25 @@ static inline int rr_begins_number(const char *key, size_t length)
 }
 
 /* Reads a key: the bytes before the next blank, and behind the word "line" or "event" a blank and digits too, if they are there. */
-static inline void rr_read_key(const char **text, size_t *left, struct rr_report_line *line)
+static inline void rr_read_key(const char **text, size_t *left, const char **key, size_t *length)
 {
-    line->key = *text;
+    *key = *text;
     while (*left > 0 && **text != ' ')
         ++*text, --*left;
-    if (rr_begins_number(line->key, (size_t)(*text - line->key)) && *left > 1 && (*text)[1] >= '0' && (*text)[1] <= '9')
+    if (rr_begins_number(*key, (size_t)(*text - *key)) && *left > 1 && (*text)[1] >= '0' && (*text)[1] <= '9')
         do
             ++*text, --*left;
         while (*left > 0 && **text != ' ');
-    line->key_length = (size_t)(*text - line->key);
+    *length = (size_t)(*text - *key);
+}
+
+/* Reads the key in B behind " = ", if it is there, and says whether nothing is wrong with it. */
+static inline int rr_read_partner(const char **text, size_t *left, struct rr_report_line *line)
+{
+    if (!rr_read_text(text, left, " = "))
+        return 1;
+    rr_read_key(text, left, &line->partner, &line->partner_length);
+    return line->partner_length > 0;
 }
 
 /* Reads A or B. */
@@ -311,15 +324,17 @@ static inline int rr_read_length(const char **text, size_t *left, struct rr_leng
     return 1;
 }
 
-/* Reads the last words of a line before its title: how its events were read. */
+/* Reads the last words of a line before its title: how its events were read, and that the title in B is another one. */
 static inline void rr_read_marks(const char **text, size_t *left, struct rr_report_line *line)
 {
     line->reads_until = rr_read_text(text, left, " until");
     line->reads_start = rr_read_text(text, left, " start");
     line->reads_day = rr_read_text(text, left, " day");
+    line->has_other_title = line->partner && rr_read_text(text, left, " title");
 }
 
-/* Reads why events are refused: all that is left, or all before a title. No refusal has a quote. */
+/* Reads why events are refused: all that is left, or all before a title, and of a pair before the word title. No refusal has a quote or ends with that
+ * word. */
 static inline int rr_read_refusal(const char **text, size_t *left, struct rr_report_line *line)
 {
     if (!rr_read_byte(text, left, ' ') || !rr_read_side(text, left, &line->side) || !rr_read_byte(text, left, ' '))
@@ -328,6 +343,10 @@ static inline int rr_read_refusal(const char **text, size_t *left, struct rr_rep
     while (*left > 0 && !(*left > 1 && (*text)[0] == ' ' && (*text)[1] == '"'))
         ++*text, --*left;
     line->refusal_length = (size_t)(*text - line->refusal);
+    if (line->partner && line->refusal_length > 6 && memcmp(*text - 6, " title", 6) == 0) {
+        line->has_other_title = 1;
+        line->refusal_length -= 6;
+    }
     return 1;
 }
 
@@ -348,7 +367,9 @@ static inline int rr_read_said(const char **text, size_t *left, struct rr_report
 {
     if (line->said == RR_SAID_ONLY && !(rr_read_side(text, left, &line->side) && rr_read_byte(text, left, ' ')))
         return 0;
-    rr_read_key(text, left, line);
+    rr_read_key(text, left, &line->key, &line->key_length);
+    if (line->said != RR_SAID_ONLY && !rr_read_partner(text, left, line))
+        return 0;
     if (line->said == RR_SAID_REFUSED || line->said == RR_SAID_ALIKE)
         return rr_read_refusal(text, left, line);
     if (line->said == RR_SAID_ONLY)
@@ -362,7 +383,7 @@ static inline int rr_read_said(const char **text, size_t *left, struct rr_report
     return 1;
 }
 
-/* Reads a line of the report at the front of *text. It returns whether one is there that is of a UID, and then leaves in *text and *left what follows
+/* Reads a line of the report at the front of *text. It returns whether one is there that is of a UID or a pair, and then leaves in *text and *left what follows
  * it; otherwise it leaves both as they are: at the last line, which counts, at the refusal of a whole calendar, and at the end. */
 static inline int rr_read_report_line(const char **text, size_t *left, struct rr_report_line *line)
 {

@@ -27,7 +27,10 @@ static void tell(const struct rr_report_line *line)
 
     if (line->title_length > 0)
         printf("%.*s, ", (int)line->title_length, line->title);
-    printf("%.*s: ", (int)line->key_length, line->key);
+    printf("%.*s", (int)line->key_length, line->key);
+    if (line->partner)
+        printf(", in the new calendar %.*s%s", (int)line->partner_length, line->partner, line->has_other_title ? " under another title" : "");
+    printf(": ");
     switch (line->said) {
     case RR_SAID_EQUAL:
         printf("the same local times in both, in zones of other names\n");

@@ -66,6 +66,39 @@ static const struct mark_row mark_rows[] = {
     { "only A u until\n", 0, RR_SAID_EQUAL, { 0, 0 }, { 0, 0 }, 0, 0, 0 },
 };
 
+struct pair_row {
+    const char *text;
+    int is_line;
+    enum rr_said said;
+    const char *key, *partner;
+    int has_other_title;
+    const char *refusal, *title;
+};
+
+/* Events that were found again without their UID, and lines that look like theirs. */
+static const struct pair_row pair_rows[] = {
+    { "equal a@x = b@y\n", 1, RR_SAID_EQUAL, "a@x", "b@y", 0, "", NULL },
+    { "equal a@x = b@y zone start title \"A b\"\n", 1, RR_SAID_EQUAL, "a@x", "b@y", 1, "", "A b" },
+    { "equal line 12 = event 8 title\n", 1, RR_SAID_EQUAL, "line 12", "event 8", 1, "", NULL },
+    { "equal = = =\n", 1, RR_SAID_EQUAL, "=", "=", 0, "", NULL },
+    { "equal line = line", 1, RR_SAID_EQUAL, "line", "line", 0, "", NULL },
+    { "equal title = title title", 1, RR_SAID_EQUAL, "title", "title", 1, "", NULL },
+    { "differs a@x = b@y no 2024-04-01T09:00:00+02:00 A title\n", 1, RR_SAID_DIFFERS, "a@x", "b@y", 1, "", NULL },
+    { "differs a = b floating B \"\"", 1, RR_SAID_DIFFERS, "a", "b", 0, "", "" },
+    { "length a@x = b@y 3600 900 until\n", 1, RR_SAID_LENGTH, "a@x", "b@y", 0, "", NULL },
+    { "refused a = b A BadMember recurrence 3\n", 1, RR_SAID_REFUSED, "a", "b", 0, "BadMember recurrence 3", NULL },
+    { "refused a = b B CycleTooLong 3 title \"x title\"\n", 1, RR_SAID_REFUSED, "a", "b", 1, "CycleTooLong 3", "x title" },
+    { "alike a = b A PeriodValue 132 \" title\"", 1, RR_SAID_ALIKE, "a", "b", 0, "PeriodValue 132", " title" },
+    { "equal title\n", 1, RR_SAID_EQUAL, "title", NULL, 0, "", NULL },
+    { "only A =\n", 1, RR_SAID_ONLY, "=", NULL, 0, "", NULL },
+    { "equal a title\n", 0, RR_SAID_EQUAL, "", NULL, 0, "", NULL },
+    { "equal a = \n", 0, RR_SAID_EQUAL, "", NULL, 0, "", NULL },
+    { "equal a =\n", 0, RR_SAID_EQUAL, "", NULL, 0, "", NULL },
+    { "equal a = b = c\n", 0, RR_SAID_EQUAL, "", NULL, 0, "", NULL },
+    { "equal a = b title start\n", 0, RR_SAID_EQUAL, "", NULL, 0, "", NULL },
+    { "only A a = b\n", 0, RR_SAID_EQUAL, "", NULL, 0, "", NULL },
+};
+
 struct report_row {
     const char *text;
     int is_line;
@@ -130,7 +163,7 @@ static const struct report_row report_rows[] = {
     { "equal u \"\n", 0, RR_SAID_EQUAL, "", RR_A, { 0, 0, 0, 0, 0, 0, 0 }, "", 0, 0, 0, 0, NULL },
     { "equal u \"x\" zone\n", 0, RR_SAID_EQUAL, "", RR_A, { 0, 0, 0, 0, 0, 0, 0 }, "", 0, 0, 0, 0, NULL },
     { "refused u A NoStart 7 \"x\n", 0, RR_SAID_EQUAL, "", RR_A, { 0, 0, 0, 0, 0, 0, 0 }, "", 0, 0, 0, 0, NULL },
-    { "events 12 equal 7 differs 2 only-A 1 only-B 1 refused 0 zone 0 alike 1\n", 0, RR_SAID_EQUAL, "", RR_A, { 0, 0, 0, 0, 0, 0, 0 }, "", 0, 0, 0, 0, NULL },
+    { "events 12 equal 7 differs 2 only-A 1 only-B 1 refused 0 zone 0 alike 1 matched 0\n", 0, RR_SAID_EQUAL, "", RR_A, { 0, 0, 0, 0, 0, 0, 0 }, "", 0, 0, 0, 0, NULL },
     { "", 0, RR_SAID_EQUAL, "", RR_A, { 0, 0, 0, 0, 0, 0, 0 }, "", 0, 0, 0, 0, NULL },
 };
 
@@ -168,6 +201,22 @@ static int is_title(const struct rr_report_line *line, const char *title)
     return title ? line->title && is_text(line->title, line->title_length, title) : !line->title && line->title_length == 0;
 }
 
+/* Whether a line that may be of a pair is read as its row says. */
+static int is_pair(const struct pair_row *row)
+{
+    const char *text = row->text;
+    size_t left = strlen(text);
+    struct rr_report_line line;
+    if (rr_read_report_line(&text, &left, &line) != row->is_line)
+        return 0;
+    if (!row->is_line)
+        return 1;
+    if (row->partner ? !line.partner || !is_text(line.partner, line.partner_length, row->partner) : line.partner || line.partner_length > 0)
+        return 0;
+    return line.said == row->said && is_text(line.key, line.key_length, row->key) && line.has_other_title == row->has_other_title &&
+           is_text(line.refusal, line.refusal_length, row->refusal) && is_title(&line, row->title);
+}
+
 /* Whether a line is read as its row says, and what follows it is left. */
 static int is_read(const struct report_row *row)
 {
@@ -188,6 +237,11 @@ int main(void)
     for (size_t i = 0; i < sizeof report_rows / sizeof *report_rows; i++)
         if (!is_read(&report_rows[i])) {
             printf("report line %d: %s\n", (int)i, report_rows[i].text);
+            failed++;
+        }
+    for (size_t i = 0; i < sizeof pair_rows / sizeof *pair_rows; i++)
+        if (!is_pair(&pair_rows[i])) {
+            printf("line of a pair %d: %s\n", (int)i, pair_rows[i].text);
             failed++;
         }
     for (size_t i = 0; i < sizeof mark_rows / sizeof *mark_rows; i++)

@@ -21,7 +21,7 @@ datetime.datetime(2024, 12, 31, 9, 0)
 >>> rr.within(rr.occurrences(phone, 3), phone)
 True
 
-Two whole calendars are compared event by event, by their UIDs:
+Two whole calendars are compared event by event, found again by their UIDs, or without them:
 
 >>> daily = "BEGIN:VEVENT\\nUID:stand-up\\nDTSTART:20240101T090000\\nRRULE:FREQ=DAILY\\nEND:VEVENT\\n"
 >>> said = rr.calendars(daily, daily.replace("FREQ", "COUNT=10;FREQ"))
@@ -480,9 +480,9 @@ def infer(series: AnySeries) -> str:
 
 
 @overload
-def calendars(old: Calendar, new: Calendar, offset: datetime.timedelta | None = None, show: None = None, differences: bool = False, titles: bool = False, strict: bool = False) -> Report: ...
+def calendars(old: Calendar, new: Calendar, offset: datetime.timedelta | None = None, show: None = None, differences: bool = False, titles: bool = False, strict: bool = False, by_uid: bool = False) -> Report: ...
 @overload
-def calendars(old: Calendar, new: Calendar, offset: datetime.timedelta | None = None, *, show: Key, differences: bool = False, titles: bool = False, strict: bool = False) -> Shown: ...
+def calendars(old: Calendar, new: Calendar, offset: datetime.timedelta | None = None, *, show: Key, differences: bool = False, titles: bool = False, strict: bool = False, by_uid: bool = False) -> Shown: ...
 def calendars(
     old: Calendar,
     new: Calendar,
@@ -491,16 +491,18 @@ def calendars(
     differences: bool = False,
     titles: bool = False,
     strict: bool = False,
+    by_uid: bool = False,
 ) -> Report | Shown:
-    """What is said of two calendars, as docs/CALENDARS.md has it: each event is found again by its UID. Events are compared by their moments if
-    the zones of both sides are defined in the two calendars; a file of further zones, as the program takes, is not for this call. Moments in UTC
-    beside a local start are read by the zones of the calendar, and those that no zone turns by the offset, which says how far local time is ahead
-    of UTC, also for events without a zone. With differences the lines of equal events are left out, but not those whose zones are not known.
-    With titles each line has the title of its events. With show only the events of that UID are asked for, or, if neither calendar has it, those
-    of the one UID whose events have it as their title; the months from the first difference of their local times on are painted, and it is said
+    """What is said of two calendars, as docs/CALENDARS.md has it: each event is found again by its UID, and one whose UID the other calendar lacks by
+    its title and its occurrences, unless by_uid says that UIDs alone count; its line has the other key as its partner. Events are compared by their
+    moments if the zones of both sides are defined in the two calendars; a file of further zones, as the program takes, is not for this call. Moments
+    in UTC beside a local start are read by the zones of the calendar, and those that no zone turns by the offset, which says how far local time is
+    ahead of UTC, also for events without a zone. With differences the lines of equal events are left out, but not those whose zones are not known.
+    With titles each line has the title of its events. With show only the events of that UID are asked for, or, if neither calendar has it, those of
+    the one UID or pair whose events have it as their title; the months from the first difference of their local times on are painted, and it is said
     how many differences more there are, and until when. A calendar that can't be read as a whole is Refused, and a UID that neither has is a
-    KeyError. Events that both calendars state in the same words, which can't be read, are alike, and no fault. What is at odds with RFC 5545 is
-    read as calendars show it, and its line has readings that say how; with strict it is refused.
+    KeyError. Events that both calendars state in the same words, which can't be read, are alike, and no fault. What is at odds with RFC 5545 is read
+    as calendars show it, and its line has readings that say how; with strict it is refused.
 
     >>> board = "BEGIN:VEVENT\\nUID:board\\nDTSTART;VALUE=DATE:20240105\\nRRULE:FREQ=MONTHLY\\nEND:VEVENT\\n"
     >>> lunch = "BEGIN:VEVENT\\nUID:lunch\\nDTSTART:20240105T123000\\nEND:VEVENT\\n"
@@ -510,11 +512,16 @@ def calendars(
     ('board', 'differs', 'A', datetime.date(2024, 2, 5))
     ('lunch', 'only', 'A', None)
     >>> said.counts
-    Counts(events=2, equal=0, differs=1, only_a=1, only_b=0, refused=0, other_zone=0, alike=0)
+    Counts(events=2, equal=0, differs=1, only_a=1, only_b=0, refused=0, other_zone=0, alike=0, matched=0)
     >>> bool(said), bool(calendars(board + lunch, lunch + board))
     (False, True)
     >>> calendars(board, lunch, show="lunch").line.side
     'B'
+    >>> renamed = calendars(board, board.replace("UID:board", "UID:7"))
+    >>> renamed.lines[0].key, renamed.lines[0].said, renamed.lines[0].partner, renamed.counts.matched
+    ('board', 'equal', '7', 1)
+    >>> [line.said for line in calendars(board, board.replace("UID:board", "UID:7"), by_uid=True).lines]
+    ['only', 'only']
     >>> party = "BEGIN:VEVENT\\nUID:7\\nSUMMARY:Summer party\\nDTSTART:20240701T170000\\nRRULE:FREQ=SOMETIMES\\nEND:VEVENT\\n"
     >>> said = calendars(party, party, titles=True)
     >>> said.lines[0].title, said.lines[0].said, said.lines[0].refusal, bool(said)
@@ -530,6 +537,7 @@ def calendars(
     words += ["--differences"] if differences else []
     words += ["--titles"] if titles else []
     words += ["--strict"] if strict else []
+    words += ["--by-uid"] if by_uid else []
     asked = [words] if show is None else [[*words, "--show", name] for name in names_of(show)]
     texts = (_calendars_text(it, a, b) for it in asked)
     text = next((it for it in texts if not it.startswith("unknown ")), None)

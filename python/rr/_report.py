@@ -45,9 +45,9 @@ class EventNumber(int):
 
 @dataclass(frozen=True)
 class ReportLine:
-    """What is said of the events of one UID.
+    """What is said of the events of one UID, or of two UIDs whose events were found to belong together.
 
-    key         the UID as the file has it, or the line or the EventNumber of an event without one
+    key         the UID as the file has it, or the line or the EventNumber of an event without one; of a pair that in the old calendar
     said        'equal': both have the same occurrences, at the same moments; 'differs': they do not; 'length': they do, but one of them is of another
                 length in the one than in the other; 'only': one calendar alone has events of it;
                 'refused': they can't be compared; 'alike': they can't be compared, but both state them in the same words, so nothing of them
@@ -66,6 +66,8 @@ class ReportLine:
                 as its day; 'start': a start that its rule does not choose, as an occurrence; 'day': an EXDATE or RECURRENCE-ID that is a date, as the
                 occurrence of that day
     title       if titles are asked for: the title of its first event in A, otherwise in B, empty if that has none; otherwise None
+    partner     of events that were found again without a UID: their key in the new calendar, which may be the same line; otherwise None
+    other_title they were found so, and have another title there
     """
 
     key: Key
@@ -79,12 +81,14 @@ class ReportLine:
     title: str | None = None
     lengths: tuple[Length, Length] | None = None
     readings: tuple[Reading, ...] = ()
+    partner: Key | None = None
+    other_title: bool = False
 
 
 @dataclass(frozen=True)
 class Counts:
-    """How many UIDs there are, and of how many each is said; other_zone counts those of equal whose zones are not known to be one. Those that are alike
-    are not among the refused ones."""
+    """How many lines there are, and of how many each is said; other_zone counts those of equal whose zones are not known to be one, and matched the pairs
+    that were found without their UID. Those that are alike are not among the refused ones."""
 
     events: int
     equal: int
@@ -94,11 +98,12 @@ class Counts:
     refused: int
     other_zone: int
     alike: int = 0
+    matched: int = 0
 
 
 @dataclass(frozen=True)
 class Report:
-    """What is said of two calendars: a line for each UID, in the order of their bytes, and the counts. It is true in a condition if all are equal or alike, and
+    """What is said of two calendars: a line for each UID or pair of them, in the order of their bytes, and the counts. It is true in a condition if all are equal or alike, and
     of none that is equal the zones are unknown: where the program has status 0."""
 
     lines: tuple[ReportLine, ...]
@@ -124,7 +129,7 @@ class More:
 
 @dataclass(frozen=True)
 class Shown:
-    """What is said of the events of one UID, and, if they differ, the months from the first difference on, as the program paints them, and how
+    """What is said of the events of one UID or pair, and, if they differ, the months from the first difference on, as the program paints them, and how
     many differences more there are; otherwise the picture is empty, and more is None. It is true in a condition if they are alike, or equal
     and their zones are known to be."""
 
@@ -195,17 +200,20 @@ def _unescaped(printed: str) -> str:
 
 _KEY = r"(?:line (?P<line>[0-9]+)|event (?P<event>[0-9]+)|(?P<uid>\S+))"
 _REFUSAL = "(?P<refusal>[A-Za-z]+(?: [^ 0-9]\\S*)*) (?P<place>[0-9]+)"
-_MARKS = "(?P<until> until)?(?P<start> start)?(?P<day> day)?"
+# The key in the new calendar, if the events were found again without their UID; then a word may say that their title there is another one.
+_KEYS = _KEY + r"(?P<pair> = (?:line (?P<other_line>[0-9]+)|event (?P<other_event>[0-9]+)|(?P<other_uid>\S+)))?"
+_OTHER = "(?P<other>(?(pair) title|(?!)))?"
+_MARKS = "(?P<until> until)?(?P<start> start)?(?P<day> day)?" + _OTHER
 _LENGTH = "(?:[0-9]+d)?[0-9]*(?<=[0-9d])"
 _TITLE = '(?: "(?P<title>[^"]*)")?'
 _READINGS: tuple[Reading, ...] = ("until", "start", "day")
 _FORMS: list[tuple[Said, str]] = [
-    ("equal", f"equal {_KEY}(?P<zone> zone)?{_MARKS}"),
-    ("differs", f"differs {_KEY} (?:no (?P<moment>\\S+)|(?P<floating>floating)) (?P<side>[AB])(?P<zone> zone)?{_MARKS}"),
-    ("length", f"length {_KEY} (?P<a>{_LENGTH}) (?P<b>{_LENGTH}){_MARKS}"),
+    ("equal", f"equal {_KEYS}(?P<zone> zone)?{_MARKS}"),
+    ("differs", f"differs {_KEYS} (?:no (?P<moment>\\S+)|(?P<floating>floating)) (?P<side>[AB])(?P<zone> zone)?{_MARKS}"),
+    ("length", f"length {_KEYS} (?P<a>{_LENGTH}) (?P<b>{_LENGTH}){_MARKS}"),
     ("only", f"only (?P<side>[AB]) {_KEY}"),
-    ("refused", f"refused {_KEY} (?P<side>[AB]) {_REFUSAL}"),
-    ("alike", f"alike {_KEY} (?P<side>[AB]) {_REFUSAL}"),
+    ("refused", f"refused {_KEYS} (?P<side>[AB]) {_REFUSAL}{_OTHER}"),
+    ("alike", f"alike {_KEYS} (?P<side>[AB]) {_REFUSAL}{_OTHER}"),
 ]
 
 
@@ -213,7 +221,7 @@ def line_of(text: str) -> ReportLine | None:
     """A line of a report, or None if it is none of a UID.
 
     >>> line_of("differs oncall@team.example no 2024-06-28 A zone")
-    ReportLine(key='oncall@team.example', said='differs', side='A', moment=datetime.date(2024, 6, 28), refusal=None, place=None, other_zone=True, floating=False, title=None, lengths=None, readings=())
+    ReportLine(key='oncall@team.example', said='differs', side='A', moment=datetime.date(2024, 6, 28), refusal=None, place=None, other_zone=True, floating=False, title=None, lengths=None, readings=(), partner=None, other_title=False)
     >>> line_of("differs u no 2024-04-01T09:00:00+02:00 A").moment.isoformat(), line_of("differs u floating B").floating
     ('2024-04-01T09:00:00+02:00', True)
     >>> line_of("only B line 12").key, line_of("only B event 12").key
@@ -221,12 +229,15 @@ def line_of(text: str) -> ReportLine | None:
     >>> line_of("refused u B BadMember recurrence 3").refusal
     'BadMember recurrence'
     >>> line_of(r'alike u A NotSynchronised 1 "The \\x22new\\x22 caf\u00e9"')
-    ReportLine(key='u', said='alike', side='A', moment=None, refusal='NotSynchronised', place=1, other_zone=False, floating=False, title='The "new" caf\u00e9', lengths=None, readings=())
+    ReportLine(key='u', said='alike', side='A', moment=None, refusal='NotSynchronised', place=1, other_zone=False, floating=False, title='The "new" caf\u00e9', lengths=None, readings=(), partner=None, other_title=False)
     >>> line_of('equal "u"').title, line_of('equal "u" zone ""').title, line_of('only A line 12 "12"').title
     (None, '', '12')
     >>> line_of("refused A BadLine 3")
     >>> line_of("length u 3600 1d").lengths, line_of("length u 3600 1d until").readings, line_of("equal u zone start day").readings
     ((Length(days=0, seconds=3600), Length(days=1, seconds=0)), ('until',), ('start', 'day'))
+    >>> found = [line_of(it) for it in ("equal a = b", "refused a = line 8 B CycleTooLong 3 title", 'differs = = = floating A title ""', "equal a title", "only A a = b")]
+    >>> [it and (it.key, it.partner, it.refusal, it.other_title, it.title) for it in found]
+    [('a', 'b', None, False, None), ('a', 8, 'CycleTooLong', True, None), ('=', '=', None, True, ''), None, None]
     """
     for said, form in _FORMS:
         it = re.fullmatch(form + _TITLE, text)
@@ -236,9 +247,9 @@ def line_of(text: str) -> ReportLine | None:
 
 
 def _line(said: Said, it: dict[str, str | None]) -> ReportLine:
-    line, event, uid, side, moment, place, title = (it.get(name) for name in ("line", "event", "uid", "side", "moment", "place", "title"))
+    side, moment, place, title = (it.get(name) for name in ("side", "moment", "place", "title"))
     return ReportLine(
-        _unescaped(uid) if uid is not None else EventNumber(event) if event is not None else int(line or 0),
+        _key(it["line"], it["event"], it["uid"]),
         said,
         None if side is None else "A" if side == "A" else "B",
         None if moment is None else told_moment(moment),
@@ -249,7 +260,14 @@ def _line(said: Said, it: dict[str, str | None]) -> ReportLine:
         None if title is None else _unescaped(title),
         None if said != "length" else (_length(it["a"] or ""), _length(it["b"] or "")),
         tuple(reading for reading in _READINGS if it.get(reading) is not None),
+        None if it.get("pair") is None else _key(it["other_line"], it["other_event"], it["other_uid"]),
+        it.get("other") is not None,
     )
+
+
+def _key(line: str | None, event: str | None, uid: str | None) -> Key:
+    """A key by the number of its line, by that of its event, or by its UID as it is printed."""
+    return _unescaped(uid) if uid is not None else EventNumber(event) if event is not None else int(line or 0)
 
 
 def _length(text: str) -> Length:
@@ -283,17 +301,17 @@ def report_of(text: str) -> Report | None:
     """A report by what is printed, or None if it is none, but the refusal of a calendar.
 
     >>> report_of("only A u\\nevents 1 equal 0 differs 0 only-A 1 only-B 0 refused 0\\n").counts
-    Counts(events=1, equal=0, differs=0, only_a=1, only_b=0, refused=0, other_zone=0, alike=0)
-    >>> both = report_of("equal u\\nalike v A PeriodValue 9\\nevents 2 equal 1 differs 0 only-A 0 only-B 0 refused 0 zone 0 alike 1\\n")
-    >>> both.counts.alike, both.counts.refused, bool(both)
-    (1, 0, True)
+    Counts(events=1, equal=0, differs=0, only_a=1, only_b=0, refused=0, other_zone=0, alike=0, matched=0)
+    >>> both = report_of("equal u\\nalike v A PeriodValue 9\\nevents 2 equal 1 differs 0 only-A 0 only-B 0 refused 0 zone 0 alike 1 matched 0\\n")
+    >>> both.counts.alike, both.counts.refused, both.counts.matched, bool(both)
+    (1, 0, 0, True)
     """
     *lines, last = text.splitlines()
     if not last.startswith("events "):
         return None
     words = last.split()
     number = {name: int(count) for name, count in zip(words[::2], words[1::2])}
-    counts = Counts(*(number.get(name, 0) for name in ("events", "equal", "differs", "only-A", "only-B", "refused", "zone", "alike")))
+    counts = Counts(*(number.get(name, 0) for name in ("events", "equal", "differs", "only-A", "only-B", "refused", "zone", "alike", "matched")))
     return Report(tuple(it for it in map(line_of, lines) if it is not None), counts)
 
 
