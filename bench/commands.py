@@ -344,22 +344,30 @@ DOCSTRINGS = {
 }
 
 
-def code_pages(table):
-    made, lookups = texts(table)
-    lines = "".join(constant(name, text) for name, text in made.items())
-    for function, named in lookups.items():
-        arms = "".join(f'        "{word}" => Some({name}),\n' for word, name in named.items())
-        lines += f"""/// {DOCSTRINGS[function]}
+# The name of the table in which each lookup looks.
+TABLES = {"help_of": "COMMAND_PAGES", "explanation_of": "REFUSAL_PAGES"}
+
+
+def code_lookup(function, named):
+    """A table of pages, and the lookup in it."""
+    pages = "".join(f'    Page {{\n        name: "{word}",\n        text: {name},\n    }},\n' for word, name in named.items())
+    return f"""const {TABLES[function]}: [Page; {len(named)}] = [
+{pages}];
+
+/// {DOCSTRINGS[function]}
 pub fn {function}(name: &str) -> Option<&'static [u8]>
     ensures {{ option_map (λ t. t.now) result ≡ {function} name.now }}
 {{
-    match name {{
-{arms}        _ => None,
-    }}
+    page_in(&{TABLES[function]}, name)
 }}
 
 """
-    return lines[:-1]
+
+
+def code_pages(table):
+    made, lookups = texts(table)
+    lines = "".join(constant(name, text) for name, text in made.items())
+    return (lines + "".join(code_lookup(function, named) for function, named in lookups.items()))[:-1]
 
 
 # What each definition of a page is, in plain words.
@@ -382,16 +390,6 @@ def defined_pages(table):
     return lines
 
 
-def answers(function):
-    """What proves a lookup: in each arm the word is known, so both sides compute. (A text of some hundred bytes is too long to be searched for.)"""
-
-    def lines(table):
-        named = texts(table)[1][function]
-        return "".join(f"pub returns-in-{word} : goal.returns-in-{word}\nreturns-in-{word} c = rw c.in-{word}.is refl\n\n" for word in named)
-
-    return lines
-
-
 def calendars_release(table):
     return constant("VERSION", f"rr-calendars {(TOP / VERSION).read_text().strip()}\n")[:-1]
 
@@ -399,8 +397,6 @@ def calendars_release(table):
 PLACES = {
     "crates/rr_compare/src/release.rt": calendars_release,
     "crates/rr_answer/src/pages.rt": code_pages, "crates/rr_answer/specs/Pages.antt": defined_pages,
-    "crates/rr_answer/proofs/pages/help_of/Answers.antt": answers("help_of"),
-    "crates/rr_answer/proofs/pages/explanation_of/Answers.antt": answers("explanation_of"),
     "crates/rr_notes/src/forms.rt": notes, "rr": wrapper_help, "README.md": tables, "docs/rr.1": synopsis,
     "completions/rr.bash": bash, "completions/_rr": zsh, "completions/rr.fish": fish,
 }

@@ -1,5 +1,11 @@
 -- What `help`, `version` and `explain` print: the table of commands, the rows of docs/REFUSALS.md and release/VERSION.
-use Rattle.std.specs.Prelude.{ℕ, List, Option, Some, None, if◌then◌else◌, bytes_eq, codes}
+use Rattle.std.specs.Prelude.{ℕ, List, [], ◌∷◌, Option, Some, None, if◌then◌else◌, bytes_eq, codes}
+use Rattle.rr_answer.specs.declared.pages.Page.{Page}
+
+-- the text of the first page of this name
+abbrev pub page_in : List ℕ → List Page → Option (List ℕ)
+page_in name [] = None
+page_in name (page ∷ pages) = if bytes_eq name page.name.now then Some page.text.now else page_in name pages
 
 -- commands.txt: BEGIN (bench/commands.py writes these lines)
 -- the page of help
@@ -8,7 +14,7 @@ help = codes "rr says whether a repeating series survived a trip between calenda
 
 -- the line that names the release
 abbrev pub version : List ℕ
-version = codes "rr 0.18.0\n"
+version = codes "rr 0.19.0\n"
 
 -- what a command prints and takes, if there is a command of this name
 abbrev pub help_of : List ℕ → Option (List ℕ)

@@ -24,6 +24,21 @@ use std::marker::Brand;
 use std::sync::ledger::{Blank, Ledger};
 
 // The n-th occurrence. The days that are read are counted in the contract alone.
+fn nth_in<L: Ledger>(
+    alloc: Global,
+    days: &Counted<Folded, L>,
+    n: u64,
+    steps: &mut Steps<L>,
+) -> Result<Nth, NoMemory>
+    requires some { 1 ≤ n }
+    requires most { n ≤ 1_125_899_906_842_624 }
+    ensures { IfOk result (λ r. IsNthOf (StandsIn (sketch days.now)) n r) }
+{
+    let ranked = Ranked::new(alloc, days, steps)?;
+    Ok(ranked.nth(n, steps))
+}
+
+// The same of days that are not needed any more.
 fn nth_of<L: Ledger>(alloc: Global, days: Folded, n: u64, blank: Blank) -> Result<Nth, NoMemory>
     requires name { blank.name ≡ L.name }
     requires parts { blank.parts ≡ L.parts }
@@ -34,11 +49,28 @@ fn nth_of<L: Ledger>(alloc: Global, days: Folded, n: u64, blank: Blank) -> Resul
 {
     let mut steps = Steps::<L>::new(blank);
     let counted = Counted::new(days);
-    let ranked = Ranked::new(alloc, &counted, &mut steps)?;
-    Ok(ranked.nth(n, &mut steps))
+    let nth = nth_in(alloc, &counted, n, &mut steps);
+    // By a call, or else the proof follows the drop into each part of the days.
+    drop(counted);
+    nth
 }
 
 // How many occurrences are not after a moment. The days that are read are counted in the contract alone.
+fn rank_in<L: Ledger>(
+    alloc: Global,
+    days: &Counted<Folded, L>,
+    kind: Kind,
+    at: i64,
+    steps: &mut Steps<L>,
+) -> Result<u64, NoMemory>
+    requires { IsInYears kind at }
+    ensures { IfOk result (λ n. IsRank (StandsIn (sketch days.now)) kind at n) }
+{
+    let ranked = Ranked::new(alloc, days, steps)?;
+    Ok(ranked.rank(kind, at, steps))
+}
+
+// The same of days that are not needed any more.
 fn rank_of<L: Ledger>(
     alloc: Global,
     days: Folded,
@@ -54,8 +86,10 @@ fn rank_of<L: Ledger>(
 {
     let mut steps = Steps::<L>::new(blank);
     let counted = Counted::new(days);
-    let ranked = Ranked::new(alloc, &counted, &mut steps)?;
-    Ok(ranked.rank(kind, at, &mut steps))
+    let rank = rank_in(alloc, &counted, kind, at, &mut steps);
+    // By a call, as in `nth_of`.
+    drop(counted);
+    rank
 }
 
 // The occurrence of a number, that there are fewer, or that it lies past the greatest day.

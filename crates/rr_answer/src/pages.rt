@@ -1,6 +1,25 @@
 // What `help`, `version` and `explain` print: the table of commands, the rows of docs/REFUSALS.md and release/VERSION.
 ghost use Rattle.std.specs.Prelude.{◌≡◌, option_map};
-ghost use Rattle.rr_answer.specs.Pages.{explanation_of, help_of};
+ghost use Rattle.rr_answer.specs.Pages.{explanation_of, help_of, page_in};
+
+// A page, with the name that asks for it.
+#[derive(Clone, Copy)]
+struct Page {
+    name: &'static str,
+    text: &'static [u8],
+}
+
+// The text of the first page of this name.
+fn page_in(pages: &[Page], name: &str) -> Option<&'static [u8]>
+    ensures { option_map (λ t. t.now) result ≡ page_in name.now pages.now }
+{
+    for page in pages {
+        if name == page.name {
+            return Some(page.text);
+        }
+    }
+    None
+}
 
 // commands.txt: BEGIN (bench/commands.py writes these lines)
 pub const HELP: &[u8] =
@@ -45,7 +64,7 @@ read, 5 if the output could not be written, 6 out of memory, 7 if a word is no t
 docs/MANUAL.md, and share/doc/rr/MANUAL.md in the folder of an installation.
 ";
 
-pub const VERSION: &[u8] = b"rr 0.18.0
+pub const VERSION: &[u8] = b"rr 0.19.0
 ";
 
 pub const HELP_EQUAL: &[u8] = b"rr equal A B
@@ -406,77 +425,247 @@ Languages: list.
 What to do: sort -u FILE.
 ";
 
+const COMMAND_PAGES: [Page; 23] = [
+    Page {
+        name: "equal",
+        text: HELP_EQUAL,
+    },
+    Page {
+        name: "within",
+        text: HELP_WITHIN,
+    },
+    Page {
+        name: "disjoint",
+        text: HELP_DISJOINT,
+    },
+    Page {
+        name: "clear",
+        text: HELP_CLEAR,
+    },
+    Page {
+        name: "differences",
+        text: HELP_DIFFERENCES,
+    },
+    Page {
+        name: "check",
+        text: HELP_CHECK,
+    },
+    Page {
+        name: "list",
+        text: HELP_LIST,
+    },
+    Page {
+        name: "from",
+        text: HELP_FROM,
+    },
+    Page {
+        name: "between",
+        text: HELP_BETWEEN,
+    },
+    Page {
+        name: "nth",
+        text: HELP_NTH,
+    },
+    Page {
+        name: "rank",
+        text: HELP_NTH,
+    },
+    Page {
+        name: "canon",
+        text: HELP_CANON,
+    },
+    Page {
+        name: "canon1",
+        text: HELP_CANON,
+    },
+    Page {
+        name: "union",
+        text: HELP_UNION,
+    },
+    Page {
+        name: "common",
+        text: HELP_UNION,
+    },
+    Page {
+        name: "minus",
+        text: HELP_UNION,
+    },
+    Page {
+        name: "translate",
+        text: HELP_TRANSLATE,
+    },
+    Page {
+        name: "split",
+        text: HELP_SPLIT,
+    },
+    Page {
+        name: "infer",
+        text: HELP_INFER,
+    },
+    Page {
+        name: "drill",
+        text: HELP_DRILL,
+    },
+    Page {
+        name: "help",
+        text: HELP_HELP,
+    },
+    Page {
+        name: "explain",
+        text: HELP_HELP,
+    },
+    Page {
+        name: "version",
+        text: HELP_HELP,
+    },
+];
+
 /// What a command prints and takes, as `help COMMAND` says it; None exactly if there is no command of this name.
 pub fn help_of(name: &str) -> Option<&'static [u8]>
     ensures { option_map (λ t. t.now) result ≡ help_of name.now }
 {
-    match name {
-        "equal" => Some(HELP_EQUAL),
-        "within" => Some(HELP_WITHIN),
-        "disjoint" => Some(HELP_DISJOINT),
-        "clear" => Some(HELP_CLEAR),
-        "differences" => Some(HELP_DIFFERENCES),
-        "check" => Some(HELP_CHECK),
-        "list" => Some(HELP_LIST),
-        "from" => Some(HELP_FROM),
-        "between" => Some(HELP_BETWEEN),
-        "nth" => Some(HELP_NTH),
-        "rank" => Some(HELP_NTH),
-        "canon" => Some(HELP_CANON),
-        "canon1" => Some(HELP_CANON),
-        "union" => Some(HELP_UNION),
-        "common" => Some(HELP_UNION),
-        "minus" => Some(HELP_UNION),
-        "translate" => Some(HELP_TRANSLATE),
-        "split" => Some(HELP_SPLIT),
-        "infer" => Some(HELP_INFER),
-        "drill" => Some(HELP_DRILL),
-        "help" => Some(HELP_HELP),
-        "explain" => Some(HELP_HELP),
-        "version" => Some(HELP_HELP),
-        _ => None,
-    }
+    page_in(&COMMAND_PAGES, name)
 }
+
+const REFUSAL_PAGES: [Page; 33] = [
+    Page {
+        name: "TooLong",
+        text: EXPLAIN_TOO_LONG,
+    },
+    Page {
+        name: "NotText",
+        text: EXPLAIN_NOT_TEXT,
+    },
+    Page {
+        name: "BadLine",
+        text: EXPLAIN_BAD_LINE,
+    },
+    Page {
+        name: "SeveralEvents",
+        text: EXPLAIN_SEVERAL_EVENTS,
+    },
+    Page {
+        name: "NoStart",
+        text: EXPLAIN_NO_START,
+    },
+    Page {
+        name: "BadMoment",
+        text: EXPLAIN_BAD_MOMENT,
+    },
+    Page {
+        name: "MixedKinds",
+        text: EXPLAIN_MIXED_KINDS,
+    },
+    Page {
+        name: "BadRule",
+        text: EXPLAIN_BAD_RULE,
+    },
+    Page {
+        name: "PartTwice",
+        text: EXPLAIN_PART_TWICE,
+    },
+    Page {
+        name: "NumberRange",
+        text: EXPLAIN_NUMBER_RANGE,
+    },
+    Page {
+        name: "UntilAndCount",
+        text: EXPLAIN_UNTIL_AND_COUNT,
+    },
+    Page {
+        name: "NotAllowed",
+        text: EXPLAIN_NOT_ALLOWED,
+    },
+    Page {
+        name: "LeapSecond",
+        text: EXPLAIN_LEAP_SECOND,
+    },
+    Page {
+        name: "UtcMoment",
+        text: EXPLAIN_UTC_MOMENT,
+    },
+    Page {
+        name: "UntilKind",
+        text: EXPLAIN_UNTIL_KIND,
+    },
+    Page {
+        name: "UntilBeforeStart",
+        text: EXPLAIN_UNTIL_BEFORE_START,
+    },
+    Page {
+        name: "NotSynchronised",
+        text: EXPLAIN_NOT_SYNCHRONISED,
+    },
+    Page {
+        name: "PeriodValue",
+        text: EXPLAIN_PERIOD_VALUE,
+    },
+    Page {
+        name: "Extended",
+        text: EXPLAIN_EXTENDED,
+    },
+    Page {
+        name: "BadJson",
+        text: EXPLAIN_BAD_JSON,
+    },
+    Page {
+        name: "BadMember",
+        text: EXPLAIN_BAD_MEMBER,
+    },
+    Page {
+        name: "StartDiffers",
+        text: EXPLAIN_START_DIFFERS,
+    },
+    Page {
+        name: "NoOccurrence",
+        text: EXPLAIN_NO_OCCURRENCE,
+    },
+    Page {
+        name: "IntervalTooLarge",
+        text: EXPLAIN_INTERVAL_TOO_LARGE,
+    },
+    Page {
+        name: "CycleTooLong",
+        text: EXPLAIN_CYCLE_TOO_LONG,
+    },
+    Page {
+        name: "CountedTooFar",
+        text: EXPLAIN_COUNTED_TOO_FAR,
+    },
+    Page {
+        name: "TooManyMoments",
+        text: EXPLAIN_TOO_MANY_MOMENTS,
+    },
+    Page {
+        name: "NotSayable",
+        text: EXPLAIN_NOT_SAYABLE,
+    },
+    Page {
+        name: "TooManyParts",
+        text: EXPLAIN_TOO_MANY_PARTS,
+    },
+    Page {
+        name: "NotCanonical",
+        text: EXPLAIN_NOT_CANONICAL,
+    },
+    Page {
+        name: "MixedSets",
+        text: EXPLAIN_MIXED_SETS,
+    },
+    Page {
+        name: "PastRange",
+        text: EXPLAIN_PAST_RANGE,
+    },
+    Page {
+        name: "NotRising",
+        text: EXPLAIN_NOT_RISING,
+    },
+];
 
 /// What a refusal means and what to do, as `explain NAME` says it; None exactly if there is no refusal of this name.
 pub fn explanation_of(name: &str) -> Option<&'static [u8]>
     ensures { option_map (λ t. t.now) result ≡ explanation_of name.now }
 {
-    match name {
-        "TooLong" => Some(EXPLAIN_TOO_LONG),
-        "NotText" => Some(EXPLAIN_NOT_TEXT),
-        "BadLine" => Some(EXPLAIN_BAD_LINE),
-        "SeveralEvents" => Some(EXPLAIN_SEVERAL_EVENTS),
-        "NoStart" => Some(EXPLAIN_NO_START),
-        "BadMoment" => Some(EXPLAIN_BAD_MOMENT),
-        "MixedKinds" => Some(EXPLAIN_MIXED_KINDS),
-        "BadRule" => Some(EXPLAIN_BAD_RULE),
-        "PartTwice" => Some(EXPLAIN_PART_TWICE),
-        "NumberRange" => Some(EXPLAIN_NUMBER_RANGE),
-        "UntilAndCount" => Some(EXPLAIN_UNTIL_AND_COUNT),
-        "NotAllowed" => Some(EXPLAIN_NOT_ALLOWED),
-        "LeapSecond" => Some(EXPLAIN_LEAP_SECOND),
-        "UtcMoment" => Some(EXPLAIN_UTC_MOMENT),
-        "UntilKind" => Some(EXPLAIN_UNTIL_KIND),
-        "UntilBeforeStart" => Some(EXPLAIN_UNTIL_BEFORE_START),
-        "NotSynchronised" => Some(EXPLAIN_NOT_SYNCHRONISED),
-        "PeriodValue" => Some(EXPLAIN_PERIOD_VALUE),
-        "Extended" => Some(EXPLAIN_EXTENDED),
-        "BadJson" => Some(EXPLAIN_BAD_JSON),
-        "BadMember" => Some(EXPLAIN_BAD_MEMBER),
-        "StartDiffers" => Some(EXPLAIN_START_DIFFERS),
-        "NoOccurrence" => Some(EXPLAIN_NO_OCCURRENCE),
-        "IntervalTooLarge" => Some(EXPLAIN_INTERVAL_TOO_LARGE),
-        "CycleTooLong" => Some(EXPLAIN_CYCLE_TOO_LONG),
-        "CountedTooFar" => Some(EXPLAIN_COUNTED_TOO_FAR),
-        "TooManyMoments" => Some(EXPLAIN_TOO_MANY_MOMENTS),
-        "NotSayable" => Some(EXPLAIN_NOT_SAYABLE),
-        "TooManyParts" => Some(EXPLAIN_TOO_MANY_PARTS),
-        "NotCanonical" => Some(EXPLAIN_NOT_CANONICAL),
-        "MixedSets" => Some(EXPLAIN_MIXED_SETS),
-        "PastRange" => Some(EXPLAIN_PAST_RANGE),
-        "NotRising" => Some(EXPLAIN_NOT_RISING),
-        _ => None,
-    }
+    page_in(&REFUSAL_PAGES, name)
 }
 // commands.txt: END

@@ -16,9 +16,9 @@ returns-in_err-series-clause-refused c =
 pub returns-clause-accepted : goal.returns-clause-accepted
 returns-clause-accepted c =
     skipping_folded (operand_in c.args.operand) c.args.bytes.now c.requires c.if-bytes-gt-MAX_INPUT.false sketch c.in_ok-series.series
-    c.in_ok-series.ensures.answers c.fold_admitted.result c.in_ok-series.ensures.sound c.fold_admitted.ensures
+    c.in_ok-series.ensures.answers c.fold_admitted-folded.result c.in_ok-series.ensures.sound c.fold_admitted-folded.ensures
 
 pub returns-clause-refused : goal.returns-clause-refused
 returns-clause-refused c =
     skipping_fault (operand_in c.args.operand) c.args.bytes.now c.requires c.if-bytes-gt-MAX_INPUT.false sketch c.in_ok-series.series
-    c.in_ok-series.ensures.answers c.fold_admitted.result c.fold_admitted.ensures
+    c.in_ok-series.ensures.answers c.fold_admitted-folded.result c.fold_admitted-folded.ensures

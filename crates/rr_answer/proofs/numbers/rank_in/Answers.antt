@@ -1,9 +1,9 @@
 use Rattle.std.proofs.Common.{rules, ◌≡◌, FitsSigned, w64, to_z-of_z}
 use Rattle.rr_answer.proofs.NumberLemmas.{rank_moved}
-use Rattle.rr_answer.proofs.numbers.rank_of.Goals as goal
+use Rattle.rr_answer.proofs.numbers.rank_in.Goals as goal
 
 pub returns : goal.returns
 returns g c =
     let fits : FitsSigned w64 c.args.at = search rules in
-    let same : c.args.days ≡ c.in_ok-ranked.ranked = search rules in
+    let same : c.args.days.now ≡ c.in_ok-ranked.ranked = search rules in
     rw same (rank_moved _ c.args.kind _ _ c.rank.result (to_z-of_z fits) c.rank.ensures.rank)
