@@ -2,6 +2,7 @@
 complete -c rr-calendars -l differences -d 'leave out the lines of equal events'
 complete -c rr-calendars -l titles -d 'end the line of each event with its title'
 complete -c rr-calendars -l strict -d 'refuse what is at odds with RFC 5545'
+complete -c rr-calendars -l by-uid -d 'find events by their UID alone'
 complete -c rr-calendars -l offset -x -d 'local time less UTC, as +02:00'
 complete -c rr-calendars -l zones -r -F -d 'a calendar file that defines further zones'
 complete -c rr-calendars -l show -x -d 'the months from the first difference of this event on'
