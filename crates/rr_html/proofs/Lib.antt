@@ -1,0 +1,2 @@
+mod HtmlLemmas
+mod MarkupLemmas
