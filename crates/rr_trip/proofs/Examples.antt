@@ -40,9 +40,11 @@ longer : said_text (codes "a") (Length (record { at = pos 0; a = length_of 0 3_6
 longer = refl
 
 -- a line with its title, here an empty one, as its last field
-titled : line_text true (record { key = Uid (codes "a"); partner = None; said = Only B; marks = no_marks; title = Some [] }) ≡ codes "only B a \"\"\n"
+titled : (in_a in_b : Vec ℕ Global)
+    → line_text true (record { key = Uid (codes "a"); partner = None; said = Only B; marks = no_marks; title = Some []; in_a = in_a; in_b = in_b })
+    ≡ codes "only B a \"\"\n"
 unfolding said_line
-titled = refl
+titled in_a in_b = refl
 
 -- how events are read, as the last words before it
 marked : said_line (Uid (codes "a")) None (Floating A) (record { until = true; start = false; day = true }) None

@@ -1,12 +1,12 @@
 -- One cell, one line and one month more of a picture.
-use Rattle.std.proofs.Common.{◌≡◌, ℕ, zero, suc, ◌+◌, ◌-◌, ◌/◌, ◌%◌, ◌^◌, ◌<◌, ◌≤◌, Bool, ◌||◌, codes, length-append, ℤ, pos, ◌+ℤ◌, List, [], ◌∷◌, ◌++◌, length, refl, ap, sym, ◌∙◌, append_assoc, add-one, subst, arith}
+use Rattle.std.proofs.Common.{◌≡◌, ℕ, zero, suc, ◌+◌, ◌-◌, ◌/◌, ◌%◌, ◌^◌, ◌<◌, ◌≤◌, Bool, ◌||◌, codes, length-append, ℤ, pos, ◌+ℤ◌, List, [], ◌∷◌, ◌++◌, length, refl, ap, sym, ◌∙◌, append_assoc, add-one, subst, arith, Option, None, Some}
 use Rattle.std.specs.Prelude.{Result, Ok, Err}
 use Rattle.std.specs.Result.{OnOk}
 use Rattle.std.specs.Fmt.{decimal}
 use Rattle.std.proofs.lemmas.Fmt.{decimal_nonempty, decimal_step}
 use Rattle.rr_model.specs.Text.Moments.{decimal_of}
 use Rattle.rr_model.specs.declared.sketch.Sketch.{Sketch}
-use Rattle.rr_trip.specs.Grid.{IsPictureOf, blank_cells, cell_text, cells_text, day_sign, first_of_month, has_mark, is_mark, legend_text, month_after, months_text, notes_text, picture_text, times_of_day, times_or, unusual_text, usual_times}
+use Rattle.rr_trip.specs.Grid.{HasPicture, IsPictureOf, blank_cells, cell_text, cells_text, day_sign, first_of_month, has_mark, is_mark, legend_text, month_after, months_text, notes_text, picture_text, times_of_day, times_or, unusual_text, usual_times}
 
 pub one_painted : (a b : Sketch) (first day : ℤ) (n : ℕ) (old out next : List ℕ) → day ≡ first +ℤ pos n → out ≡ old ++ cells_text a b first n
     → next ≡ out ++ cell_text a b day → next ≡ old ++ cells_text a b first (n + 1)
@@ -67,6 +67,15 @@ pub months_put : {T E : Type 0} (r : Result T E) (next two one old : List ℕ) (
 months_put r next two one old text first second third s t e f h =
     put_three r next two one old (text first) (text (month_after first)) (text (month_after (month_after first))) e
     (f ∙ ap (λ (d : ℤ). one ++ text d) s) (subst (λ (d : ℤ). OnOk r (next ≡ two ++ text d)) (t ∙ ap month_after s) h)
+
+-- the first day that was answered is that of the month of the day
+pub first_answered : (day first : ℤ) (o : Option ℤ) → o ≡ Some first → (HasPicture day → o ≡ Some (first_of_month day)) → HasPicture day
+    → first ≡ first_of_month day
+first_answered day first o is near h = let e = near h in cc
+
+-- a day that has none is not painted
+pub none_answered : (day : ℤ) (o : Option ℤ) → o ≡ None → (HasPicture day → o ≡ Some (first_of_month day)) → HasPicture day → ⊥
+none_answered day o is near h = let e = near h in cc
 
 -- the months of a picture were put, and the notes behind them
 pub is_picture : (a b : Sketch) (day first : ℤ) (empty painted text usual : List ℕ) → empty ≡ [] → first ≡ first_of_month day

@@ -13,6 +13,10 @@ mod CountLemmas
 mod PrintLemmas
 mod SubjectLemmas
 mod ReportLemmas
+mod TitleLemmas
 mod UidLemmas
 mod GridLemmas
+mod FurtherLemmas
+mod MonthLemmas
 mod ShownLemmas
+mod DetailLemmas

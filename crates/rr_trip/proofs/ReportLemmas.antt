@@ -23,17 +23,19 @@ use Rattle.rr_trip.proofs.SaidLemmas.{marks_judged, said_judged}
 pub line_of_judged : {E : Type 0} (titles : Bool) (a b : ZonedCalendar) (subject : Subject) (judged : Judged) (title : Option (List ℕ)) (r : Result ReportLine E)
     → IsJudged (stated_in a.stated subject.a) (stated_in b.stated subject.b) judged
     → title ≡ title_if titles (title_by a.titles b.titles subject.a subject.b)
-    → IfOk r (λ line. (line.key ≡ subject.key) × (line.partner ≡ subject.partner) × (line.title ≡ title) × (line.marks ≡ marks_of_judged judged)
-    × IsSaidOfJudged a.means b.means judged line.said × IsPrintableSaid line.said)
+    → IfOk r (λ line. (line.key ≡ subject.key) × (line.partner ≡ subject.partner) × (line.title ≡ title) × (line.in_a.items ≡ subject.a) × (line.in_b.items ≡ subject.b)
+    × (line.marks ≡ marks_of_judged judged) × IsSaidOfJudged a.means b.means judged line.said × IsPrintableSaid line.said)
     → IfOk r (IsLineOf titles a b subject)
 line_of_judged titles a b subject judged title (Err e) is_judged titled h = tt
 line_of_judged titles a b subject judged title (Ok line) is_judged titled h = record {
   of_key = h.0;
   partner = h.1;
-  said = said_judged a.means b.means (stated_in a.stated subject.a) (stated_in b.stated subject.b) judged line.said is_judged h.4;
-  marked = h.3 ∙ marks_judged a.means b.means (stated_in a.stated subject.a) (stated_in b.stated subject.b) judged line.said is_judged h.4;
+  said = said_judged a.means b.means (stated_in a.stated subject.a) (stated_in b.stated subject.b) judged line.said is_judged h.6;
+  marked = h.5 ∙ marks_judged a.means b.means (stated_in a.stated subject.a) (stated_in b.stated subject.b) judged line.said is_judged h.6;
   titled = h.2 ∙ titled;
-  printable = h.5;
+  in_a = h.3;
+  in_b = h.4;
+  printable = h.7;
 }
 
 -- ---- one line after the other

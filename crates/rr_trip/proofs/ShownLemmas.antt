@@ -1,38 +1,28 @@
 -- What is shown of the events of one name.
-use Rattle.std.proofs.Common.{◌≡◌, inl, inr, ℕ, ◌+◌, ◌<◌, ◌≤◌, Bool, true, false, cond, List, [], ◌∷◌, ◌++◌, length, get_or, slice_get, take, drop, Option, None, Some, Ok, Err, ap, subst, sym, ◌∙◌, append_assoc, append-nil, arith}
+use Rattle.std.proofs.Common.{◌≡◌, inl, inr, ℕ, ◌+◌, ◌<◌, ◌≤◌, Bool, true, false, cond, List, [], ◌∷◌, ◌++◌, length, get_or, slice_get, take, drop, Option, None, Some, Ok, Err, ap, subst, sym, ◌∙◌, append_assoc, append-nil}
 use Rattle.std.specs.List.{list_all, position, position_from}
 use Rattle.std.specs.Prelude.{IfOk, Result}
-use Rattle.std.proofs.lemmas.Int.{ints}
 use Rattle.std.proofs.lemmas.List.{at_drop_all, at_drop_more}
-use Rattle.std.proofs.lemmas.List.Elements.{All-contains, All-get_or, Contains-push}
+use Rattle.std.proofs.lemmas.List.Elements.{All-get_or}
 use Rattle.std.proofs.lemmas.List.Quantifiers.{position-Some}
 use Rattle.std.proofs.lemmas.Option.{none-some, slice_get-get_or, slice_get_read}
 use Rattle.rr_days.specs.Sequence.{sketch}
-use Rattle.rr_differ.specs.Differences.{IsDifference}
-use Rattle.rr_differ.specs.Further.{IsFurther, LastIsUpToMaxDay}
-use Rattle.rr_differ.specs.declared.further.Further.{Further}
-use Rattle.rr_differ.specs.declared.further.Further.TheVariants.{NoMore, Until, Many, ForEver}
 use Rattle.rr_groups.specs.Groups.{AreGroups}
 use Rattle.rr_groups.specs.declared.group.Group.{Group}
-use Rattle.rr_model.specs.Moment.{day_part}
-use Rattle.rr_model.specs.Sets.Sketch.{StandsIn}
-use Rattle.rr_model.specs.declared.rule.Series.{Series}
 use Rattle.rr_model.specs.declared.sketch.Sketch.{Sketch}
 use Rattle.rr_model.specs.declared.verdict.Side.TheVariants.{A, B}
-use Rattle.rr_model.proofs.RisingSetLemmas.{Contains-tail}
-use Rattle.rr_model.proofs.YearLemmas.{from_year_one}
+use Rattle.rr_model.specs.declared.verdict.Verdict.{Verdict}
 use Rattle.rr_seam.specs.Keys.{is_same_key}
 use Rattle.rr_seam.specs.Stated.{Stated}
 use Rattle.rr_seam.specs.declared.marks.Marks.{Marks}
 use Rattle.rr_seam.specs.declared.key.Key.{Key}
 use Rattle.rr_trip.specs.Parts.{ArePartsIf}
 use Rattle.rr_trip.specs.Found.{AreFoundIf, AreSound, IsWithin}
-use Rattle.rr_trip.specs.Judged.{IsFoldOf}
 use Rattle.rr_trip.specs.Pairs.{IsJudged, IsJudgedBoth, IsPairOf, IsSaidOfJudged, days_b, marks_of_judged, series_b}
-use Rattle.rr_trip.specs.Printed.{IsPrintableFurther, said_line}
+use Rattle.rr_trip.specs.Printed.{said_line}
 use Rattle.rr_trip.specs.Report.{IsSubject, Subject, stated_in, title_by, title_if}
 use Rattle.rr_trip.specs.Said.{said_alone}
-use Rattle.rr_trip.specs.Shown.{IsPictureFor, IsPictureOfJudged, IsShownBy, IsShownIn, IsShownLine, IsShownSaid, IsUncompared, IsUnknown, TellsOfBoth, has_key, is_key_named, is_line_of_key, keys_titled, keys_with_title, line_by, line_of, line_of_all, line_of_keys, line_or, shown_line, titled_part}
+use Rattle.rr_trip.specs.Shown.{IsOfBoth, IsPictureFor, IsPictureOfJudged, IsShownBy, IsShownIn, IsShownLine, IsShownSaid, IsToldBy, IsUncompared, IsUnknown, has_key, is_key_named, is_line_of_key, keys_titled, keys_with_title, line_by, line_of, line_of_all, line_of_keys, line_or, shown_line, titled_part}
 use Rattle.rr_trip.specs.Zoned.{Meaning, ZonedCalendar}
 use Rattle.rr_trip.specs.declared.found.Found.{Found}
 use Rattle.rr_trip.specs.declared.found.FoundAgain.{FoundAgain}
@@ -42,7 +32,7 @@ use Rattle.rr_trip.specs.declared.pair.KeyPair.{KeyPair}
 use Rattle.rr_trip.specs.declared.said.Said.{Said}
 use Rattle.rr_trip.specs.declared.said.Said.TheVariants as said
 use Rattle.rr_trip.specs.declared.shown.Shown.{Shown}
-use Rattle.rr_trip.proofs.SaidLemmas.{holds_from_year_one, marks_judged, said_judged}
+use Rattle.rr_trip.proofs.SaidLemmas.{marks_judged, said_judged}
 
 -- ---- a list from a place on
 
@@ -102,8 +92,10 @@ ok_each (Err e) h f = tt
 
 -- ---- the picture
 
-told_both : (a b : Stated) (pair : KeyPair) (text : List ℕ) → IsPairOf a b pair → IsPictureOfJudged (judged.Compared pair) text → TellsOfBoth a b text
-told_both a b pair text is h = record {
+-- what is so of the days of a pair is so of what both state
+pub pair_of_both : (P : Verdict → Sketch → Sketch → Type 0) (a b : Stated) (pair : KeyPair) → IsPairOf a b pair
+    → P pair.local (sketch pair.a.days) (sketch (days_b pair)) → IsOfBoth a b P
+pair_of_both P a b pair is h = record {
   days_a = sketch pair.a.days;
   days_b = sketch (days_b pair);
   of_a = record { series = pair.a.series; states = is.states_a; folded = is.is_pair.of_a };
@@ -121,7 +113,8 @@ picture_both a b (judged.Told (said.Alike refusal)) told ma mb text h e p = inl 
 picture_both a b (judged.Told (said.Floating side)) told ma mb text h e p = absurd h
 picture_both a b (judged.Told (said.Length other)) told ma mb text h e p = absurd h
 picture_both a b (judged.Told (said.Compared verdict zones)) told ma mb text h e p = absurd h
-picture_both a b (judged.Compared pair) told ma mb text h e p = inr (told_both a b pair text h p)
+picture_both a b (judged.Compared pair) told ma mb text h e p =
+    inr (pair_of_both (λ verdict days_a days_b. IsToldBy verdict days_a days_b text) a b pair h p)
 
 -- of a key that is told of nothing is painted
 told_picture : (told : Said) (j : Judged) (text : List ℕ) → j ≡ judged.Told told → IsPictureOfJudged j text → text ≡ []
@@ -262,18 +255,3 @@ shown_in by_uid titles a b name keys_a keys_b by_key groups sought taken found o
   are_found = subst (λ (gs : List Group). AreFoundIf by_uid a b gs found) same are_found;
   is_shown = subst (λ (gs : List Group). IsShownLine titles a b gs found name (shown_line gs found name (keys_with_title a b name)) shown) same' h;
 }
-
--- ---- how many differences more
-
--- the last one has an occurrence of a series, and so a year from 1 on
-pub printable_further : (a b : Series) (s u : Sketch) → IsFoldOf a s → IsFoldOf b u → (further : Further) → IsFurther (StandsIn s) (StandsIn u) further
-    → LastIsUpToMaxDay further → IsPrintableFurther further
-printable_further a b s u fa fb NoMore h day = tt
-printable_further a b s u fa fb (Until count last) h day =
-    let differs = All-contains (IsDifference (StandsIn s) (StandsIn u)) (h.first ∷ h.between ++ last ∷ []) last h.all.differ
-    (Contains-tail h.first (h.between ++ last ∷ []) last (Contains-push h.between last)) in
-    let first = holds_from_year_one a b s u fa fb last.side last.kind last.at differs in
-    let low = (from_year_one (day_part last.kind last.at)).0 first in
-    (first, (omega (arith, ints, low), omega (arith, ints, day)))
-printable_further a b s u fa fb Many h day = tt
-printable_further a b s u fa fb ForEver h day = tt

@@ -178,10 +178,14 @@ abbrev pub months_legend : List ℕ → Sketch → Sketch → ℤ → List ℕ
 months_legend usual a b first =
     month_legend usual a b first ++ month_legend usual a b (month_after first) ++ month_legend usual a b (month_after (month_after first))
 
+-- the usual times, and the days of the three months with others
+abbrev pub day_times_text : List ℕ → Sketch → Sketch → ℤ → List ℕ
+day_times_text usual a b first = usual_text a.kind b.kind usual ++ months_legend usual a b first
+
 -- what stands below the months: what the signs say, the usual times, and the days with others
 abbrev pub notes_text : List ℕ → Sketch → Sketch → ℤ → List ℕ
 notes_text usual a b first =
-    codes "\n= both, x both at other times, A or B one alone, . none\n" ++ usual_text a.kind b.kind usual ++ months_legend usual a b first
+    codes "\n= both, x both at other times, A or B one alone, . none\n" ++ day_times_text usual a b first
 
 -- ---- the picture
 

@@ -16,4 +16,5 @@ pub mod Counts
 pub mod Printed
 pub mod Grid
 pub mod Shown
+pub mod Details
 pub mod Laws

@@ -81,6 +81,8 @@ pub record IsLineOf (titles : Bool) (a b : ZonedCalendar) (subject : Subject) (l
   pub said : IsSaid a.means b.means (stated_in a.stated subject.a) (stated_in b.stated subject.b) line.said
   pub marked : line.marks ≡ marks_said (stated_in a.stated subject.a) (stated_in b.stated subject.b) line.said
   pub titled : line.title ≡ title_if titles (title_by a.titles b.titles subject.a subject.b)
+  pub in_a : line.in_a.items ≡ subject.a
+  pub in_b : line.in_b.items ≡ subject.b
   pub printable : IsPrintableSaid line.said
 
 -- the line is that of the group at this index

@@ -159,15 +159,19 @@ abbrev pub IsToldBy : Verdict → Sketch → Sketch → List ℕ → Type 0
 IsToldBy Yes a b text = text ≡ []
 IsToldBy (No kind at side) a b text = IsTold a b (day_part kind at) text
 
--- the text tells where the local times of what A and B state differ
-pub record TellsOfBoth (a b : Stated) (text : List ℕ) : Type 0 where
+-- these are the days of what A and B state, and this is so of the verdict on their local times
+pub record IsOfBoth (a b : Stated) (P : Verdict → Sketch → Sketch → Type 0) : Type 0 where
   pub days_a : Sketch
   pub days_b : Sketch
   pub of_a : AreDaysOf a days_a
   pub of_b : AreDaysOf b days_b
   pub verdict : Verdict
   pub is_verdict : IsEqualVerdict (StandsIn days_a) (StandsIn days_b) verdict
-  pub tells : IsToldBy verdict days_a days_b text
+  pub tells : P verdict days_a days_b
+
+-- the text tells where the local times of what A and B state differ
+abbrev pub TellsOfBoth : Stated → Stated → List ℕ → Type 0
+TellsOfBoth a b text = IsOfBoth a b (λ verdict days_a days_b. IsToldBy verdict days_a days_b text)
 
 -- the events of the key are refused
 abbrev pub IsUncompared : Said → Type 0

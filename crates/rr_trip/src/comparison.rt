@@ -54,6 +54,7 @@ fn line_of<M: ZoneNames, N: ZoneNames>(
         (AreKnown (M.meaning names_a.now) (N.meaning names_b.now) known.new) }
     ensures line { IfOk result (λ line. (line.key ≡ (subject_in subject.entry).key)
         × (line.partner ≡ (subject_in subject.entry).partner) × (line.title ≡ title)
+        × (line.in_a.items ≡ (subject_in subject.entry).a) × (line.in_b.items ≡ (subject_in subject.entry).b)
         × (line.marks ≡ marks_of_judged judged.now) × IsSaidOfJudged (M.meaning names_a.now) (N.meaning names_b.now) judged.now line.said
         × IsPrintableSaid line.said) }
 {
@@ -66,6 +67,8 @@ fn line_of<M: ZoneNames, N: ZoneNames>(
         said,
         marks: judged.marks(),
         title,
+        in_a: subject.a.to_vec(alloc)?,
+        in_b: subject.b.to_vec(alloc)?,
     })
 }
 

@@ -1,8 +1,8 @@
 // Three months of two sequences of days as they are painted for a person.
-ghost use Rattle.std.specs.Prelude.{◌≡◌, ◌<◌, ◌||◌, ◌≤ℤ◌, ◌+ℤ◌, ◌-ℤ◌, ◌++◌, pos, take, length, IfOk, OnOk};
+ghost use Rattle.std.specs.Prelude.{◌≡◌, ◌<◌, ◌||◌, ◌≤ℤ◌, ◌+ℤ◌, ◌-ℤ◌, ◌++◌, pos, take, length, IfOk, IfSome, OnOk, Some};
 ghost use Rattle.rr_model.specs.Calendar.{IsDayWithin, day_of_month, weekday_of};
 ghost use Rattle.rr_model.specs.Text.Moments.{decimal_of};
-ghost use Rattle.rr_trip.specs.Grid.{HasMonthsAfter, HasPicture, IsPainted, IsPictureOf, blank_cells, cell_text, cells_text, day_sign, day_text, first_of_month, first_row, has_mark, has_month, head_text, is_mark, is_usual, legend_text, marked_text, month_after, month_legend, month_length, month_name, month_text, months_legend, months_text, more_text, notes_text, row_text, sign_of, time_list_text, time_text, times_of_day, times_text, two_columns, unusual_text, usual_text, usual_times};
+ghost use Rattle.rr_trip.specs.Grid.{HasMonthsAfter, HasPicture, IsPainted, IsPictureOf, blank_cells, cell_text, cells_text, day_sign, day_text, day_times_text, first_of_month, first_row, has_mark, has_month, head_text, is_mark, is_usual, legend_text, marked_text, month_after, month_legend, month_length, month_name, month_text, months_legend, months_text, more_text, notes_text, row_text, sign_of, time_list_text, time_text, times_of_day, times_text, two_columns, unusual_text, usual_text, usual_times};
 
 use crate::printing::push;
 use crate::verdict::two_digits;
@@ -33,8 +33,8 @@ fn sign_of(one_kind: bool, a: &[u32], b: &[u32]) -> u8
     }
 }
 
-// The sign of a day.
-fn day_sign<A: DaySeq, B: DaySeq>(a: &A, b: &B, day: i64) -> u8
+/// The sign of a day.
+pub fn day_sign<A: DaySeq, B: DaySeq>(a: &A, b: &B, day: i64) -> u8
     requires { IsDayWithin 0 day }
     ensures { result ≡ day_sign (A.sketch a.now) (B.sketch b.now) day }
 {
@@ -55,8 +55,8 @@ fn is_marked_after(marked: bool, sign: u8) -> bool
     marked || is_mark(sign)
 }
 
-// The day that lies `days` days after another.
-fn day_after(first: i64, days: u8) -> i64
+/// The day that lies `days` days after another.
+pub fn day_after(first: i64, days: u8) -> i64
     requires { IsPainted first }
     ensures value { result ≡ first +ℤ pos days }
     ensures within { IsDayWithin 0 result }
@@ -216,9 +216,9 @@ fn push_head(out: &mut Vec<u8>, first: i64) -> Result<(), NoMemory>
 
 // ---- months
 
-// How many days the month has that begins on this day.
+/// How many days the month has that begins on this day.
 #[tactic(auto, unfolding(crate::specs::Grid::month_length))]
-fn month_length(first: i64) -> u8
+pub fn month_length(first: i64) -> u8
     requires { IsPainted first }
     ensures { result ≡ month_length first }
 {
@@ -236,8 +236,8 @@ fn first_of_month(day: i64) -> i64
     day - i64::from(date_of(day).day - 1)
 }
 
-// The first day of the month after the one that begins on this day.
-fn month_after(first: i64) -> i64
+/// The first day of the month after the one that begins on this day.
+pub fn month_after(first: i64) -> i64
     requires { IsPainted first }
     ensures value { result ≡ month_after first }
     ensures low { first ≤ℤ result }
@@ -246,8 +246,8 @@ fn month_after(first: i64) -> i64
     first + i64::from(month_length(first))
 }
 
-// Whether the month that begins on this day is painted: one of its days is marked.
-fn has_month<A: DaySeq, B: DaySeq>(a: &A, b: &B, first: i64) -> bool
+/// Whether the month that begins on this day is painted: one of its days is marked.
+pub fn has_month<A: DaySeq, B: DaySeq>(a: &A, b: &B, first: i64) -> bool
     requires { IsPainted first }
     ensures { result ≡ has_month (A.sketch a.now) (B.sketch b.now) first }
 {
@@ -316,8 +316,8 @@ fn times_of_day<'a, A: DaySeq, B: DaySeq>(a: &'a A, b: &'a B, day: i64) -> &'a [
     if times.is_empty() { b.at(day) } else { times }
 }
 
-// The times of the first day with some among the days of three months, those of A before those of B: the usual ones.
-fn usual_times<'a, A: DaySeq, B: DaySeq>(a: &'a A, b: &'a B, first: i64) -> &'a [u32]
+/// The times of the first day with some among the days of three months, those of A before those of B: the usual ones.
+pub fn usual_times<'a, A: DaySeq, B: DaySeq>(a: &'a A, b: &'a B, first: i64) -> &'a [u32]
     requires { IsPainted first }
     ensures { result.now ≡ usual_times (A.sketch a.now) (B.sketch b.now) first 92 }
 {
@@ -511,6 +511,22 @@ fn push_months_legend<A: DaySeq, B: DaySeq>(
     push_month_legend(out, usual, a, b, third)
 }
 
+/// Puts the usual times, and the days of three months with others.
+pub fn push_day_times<A: DaySeq, B: DaySeq>(
+    out: &mut Vec<u8>,
+    usual: &[u32],
+    a: &A,
+    b: &B,
+    first: i64,
+) -> Result<(), NoMemory>
+    requires { HasMonthsAfter first }
+    ensures { OnOk result (out.new.items
+        ≡ out.old.items ++ day_times_text usual.now (A.sketch a.now) (B.sketch b.now) first) }
+{
+    push_usual(out, a.kind(), b.kind(), usual)?;
+    push_months_legend(out, usual, a, b, first)
+}
+
 // Puts what the signs say, the usual times, and the days with others.
 fn push_notes<A: DaySeq, B: DaySeq>(
     out: &mut Vec<u8>,
@@ -527,8 +543,18 @@ fn push_notes<A: DaySeq, B: DaySeq>(
         out,
         b"\n= both, x both at other times, A or B one alone, . none\n",
     )?;
-    push_usual(out, a.kind(), b.kind(), usual)?;
-    push_months_legend(out, usual, a, b, first)
+    push_day_times(out, usual, a, b, first)
+}
+
+/// The first day of the month of a day, unless the day lies within 1,000 days of `MAX_DAY`: then no month is painted.
+pub fn first_painted(day: i64) -> Option<i64>
+    ensures near { HasPicture day → result ≡ Some (first_of_month day) }
+    ensures within { IfSome result HasMonthsAfter }
+{
+    if day < -FARTHEST || day > FARTHEST {
+        return None;
+    }
+    Some(first_of_month(day))
 }
 
 /// Those of the month of a day and the two after it that have a difference, Monday first: each day by its number, and behind
@@ -546,10 +572,9 @@ pub fn picture<A: DaySeq, B: DaySeq>(
         day text.items) }
 {
     let mut out = Vec::new(alloc);
-    if day < -FARTHEST || day > FARTHEST {
+    let Some(first) = first_painted(day) else {
         return Ok(out);
-    }
-    let first = first_of_month(day);
+    };
     push_months(&mut out, a, b, first)?;
     push_notes(&mut out, usual_times(a, b, first), a, b, first)?;
     Ok(out)

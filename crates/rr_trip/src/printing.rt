@@ -3,7 +3,7 @@ ghost use Rattle.std.specs.Prelude.{◌≡◌, ◌<◌, ◌++◌, All, IfOk, OnO
 ghost use Rattle.std.specs.Fmt.{decimal};
 ghost use Rattle.rr_length.specs.Length.{length_text};
 ghost use Rattle.rr_text.specs.Printed.{IsPrintable};
-ghost use Rattle.rr_trip.specs.Printed.{IsPrintableFurther, asked_byte, asked_text, counts_text, event_refusal_text, file_refusal_line, further_text, has_number, is_difference, key_refusal_text, key_text, last_counts_text, line_text, lines_text, marks_text, name_text, other_title_text, partner_text, report_text, said_line, said_text, title_field, uid_byte, uid_text, word_if};
+ghost use Rattle.rr_trip.specs.Printed.{IsPrintableFurther, asked_byte, asked_text, counts_text, event_refusal_text, file_refusal_line, file_refusal_text, further_text, has_number, is_difference, key_refusal_text, key_text, last_counts_text, line_text, lines_text, marks_text, name_text, other_title_text, partner_text, report_text, said_line, said_text, title_field, uid_byte, uid_text, word_if};
 ghost use Rattle.rr_trip.specs.Said.{IsPrintableSaid};
 ghost use Rattle.rr_trip.specs.Subjects.{partner_in};
 
@@ -121,7 +121,12 @@ fn push_event_refusal(
     push_numbered(out, b" ", place)
 }
 
-fn push_key_refusal(alloc: Global, out: &mut Vec<u8>, refusal: KeyRefusal) -> Result<(), NoMemory>
+/// Appends the refusal of the events of a key: its name, and a number behind it.
+pub fn push_key_refusal(
+    alloc: Global,
+    out: &mut Vec<u8>,
+    refusal: KeyRefusal,
+) -> Result<(), NoMemory>
     ensures { OnOk result (out.new.items ≡ out.old.items ++ key_refusal_text refusal) }
 {
     match refusal {
@@ -395,6 +400,20 @@ pub fn print(alloc: Global, only_differences: bool, report: &Report) -> Result<V
     Ok(out)
 }
 
+/// Appends the refusal of a whole file behind a blank: its name, and a number behind it.
+pub fn push_file_refusal(out: &mut Vec<u8>, refusal: FileRefusal) -> Result<(), NoMemory>
+    ensures { OnOk result (out.new.items ≡ out.old.items ++ file_refusal_text refusal) }
+{
+    match refusal {
+        FileRefusal::TooLong => push(out, b" TooLong"),
+        FileRefusal::NoEvents => push(out, b" NoEvents"),
+        FileRefusal::BadLine(line) => push_numbered(out, b" BadLine ", line),
+        FileRefusal::BadJson => push(out, b" BadJson"),
+        FileRefusal::MorePages => push(out, b" MorePages"),
+        FileRefusal::BadEvent(event) => push_numbered(out, b" BadEvent ", event),
+    }
+}
+
 /// The line that refuses a whole file.
 pub fn print_refusal(alloc: Global, side: Side, refusal: FileRefusal) -> Result<Vec<u8>, NoMemory>
     ensures { IfOk result (λ text. text.items ≡ file_refusal_line side refusal) }
@@ -402,14 +421,7 @@ pub fn print_refusal(alloc: Global, side: Side, refusal: FileRefusal) -> Result<
     let mut out = Vec::new(alloc);
     push(&mut out, b"refused ")?;
     push(&mut out, side_text(side).as_bytes())?;
-    match refusal {
-        FileRefusal::TooLong => push(&mut out, b" TooLong")?,
-        FileRefusal::NoEvents => push(&mut out, b" NoEvents")?,
-        FileRefusal::BadLine(line) => push_numbered(&mut out, b" BadLine ", line)?,
-        FileRefusal::BadJson => push(&mut out, b" BadJson")?,
-        FileRefusal::MorePages => push(&mut out, b" MorePages")?,
-        FileRefusal::BadEvent(event) => push_numbered(&mut out, b" BadEvent ", event)?,
-    }
+    push_file_refusal(&mut out, refusal)?;
     push(&mut out, b"\n")?;
     Ok(out)
 }

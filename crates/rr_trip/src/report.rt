@@ -28,6 +28,10 @@ pub struct ReportLine {
     pub marks: Marks,
     /// The title of its first event in A, otherwise in B, if titles are asked for.
     pub title: Option<Bytes>,
+    /// The indexes of its events in A.
+    pub in_a: Vec<usize>,
+    /// The indexes of its events in B.
+    pub in_b: Vec<usize>,
 }
 
 /// What is said of each key of two calendars, in the order of the keys.

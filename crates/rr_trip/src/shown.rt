@@ -9,6 +9,7 @@ ghost use Rattle.rr_trip.specs.Subjects.{partner_in, subject_in};
 ghost use Rattle.rr_trip.specs.Zoned.{zoned};
 
 use crate::found::{FoundAgain, found_again};
+use crate::further::further_of;
 use crate::grid::picture;
 use crate::known::KnownZones;
 use crate::name::shown_line;
@@ -20,7 +21,6 @@ use crate::said::{Said, Zones};
 use crate::subject::{LineSubject, SubjectPartner, subject_of};
 use crate::title::title_of;
 use crate::zones::said_of;
-use rr_differ::further_differences;
 use rr_groups::{Group, groups_of, keys_of};
 use rr_model::{Bytes, NoMemory, Verdict, day_part};
 use rr_seam::{EventFile, Key};
@@ -70,7 +70,7 @@ fn told(alloc: Global, pair: &KeyPair, day: i64) -> Result<Vec<u8>, NoMemory>
         text.items) }
 {
     let b = pair.days_b();
-    let further = further_differences(alloc, &pair.a.days, b)?;
+    let further = further_of(alloc, pair)?;
     let mut text = Vec::new(alloc);
     push_further(&mut text, further)?;
     let months = picture(alloc, &pair.a.days, b, day)?;

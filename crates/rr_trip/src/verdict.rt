@@ -31,8 +31,8 @@ fn push_seconds(out: &mut Vec<u8>, value: u32) -> Result<(), NoMemory>
     push(out, &two_digits(seconds))
 }
 
-// An offset in seconds, as hours and minutes, and seconds if it has some.
-fn push_offset(out: &mut Vec<u8>, offset: i32) -> Result<(), NoMemory>
+/// Appends an offset in seconds, less than a day either way, as hours and minutes, and seconds if it has some (RFC 3339).
+pub fn push_offset(out: &mut Vec<u8>, offset: i32) -> Result<(), NoMemory>
     requires { IsBelowDay offset }
     ensures { OnOk result (out.new.items ≡ out.old.items ++ offset_text offset) }
 {
@@ -45,8 +45,8 @@ fn push_offset(out: &mut Vec<u8>, offset: i32) -> Result<(), NoMemory>
     push_seconds(out, value)
 }
 
-// How far local time is ahead of UTC.
-fn push_ahead(out: &mut Vec<u8>, ahead: Ahead) -> Result<(), NoMemory>
+/// Appends how far local time is ahead of UTC: `Z` for a series in UTC, otherwise hours and minutes, and seconds if it has some.
+pub fn push_ahead(out: &mut Vec<u8>, ahead: Ahead) -> Result<(), NoMemory>
     requires { IsPrintableAhead ahead }
     ensures { OnOk result (out.new.items ≡ out.old.items ++ ahead_text ahead) }
 {

@@ -13,7 +13,7 @@ ghost use Rattle.rr_true.specs.Occurrences.{TrueOf};
 ghost use Rattle.rr_true.specs.Changes.{IsBelowDay, offset_of};
 ghost use Rattle.rr_utc.specs.Walks.{NamesNear};
 ghost use Rattle.rr_trip.specs.Known.{AreKnown, AreZonesApart};
-ghost use Rattle.rr_trip.specs.Pairs.{AreOfMoments, IsPair, IsSaidOfJudged, IsSaidOfPair, IsSaidOfTimes, IsSound, days_b, have_moments, series_b};
+ghost use Rattle.rr_trip.specs.Pairs.{AreOfMoments, IsPair, IsSaidOfJudged, IsSaidOfPair, IsSaidOfTimes, IsSound, are_moments, days_b, have_moments, series_b};
 ghost use Rattle.rr_trip.specs.Readings.{are_empty, is_floating, one_name, reading_by, reading_of_names, reading_without};
 ghost use Rattle.rr_trip.specs.Said.{ArePrintableZones, HasSome, IsComparedLocally, IsPrintableSaid, IsSaidBy, IsSaidByMoments, IsSaidFloating, ahead_by, zone_on};
 ghost use Rattle.rr_trip.specs.Zoned.{meaning_of};
@@ -360,12 +360,22 @@ pub(crate) fn one_name(names: &[Bytes]) -> Option<&[u8]>
     }
 }
 
+// Whether both kinds are of moments.
+fn are_moments(a: Kind, b: Kind) -> bool
+    ensures { result ≡ are_moments a b }
+{
+    match (a, b) {
+        (Kind::Moments, Kind::Moments) => true,
+        _ => false,
+    }
+}
+
 // Whether both are series of moments.
 fn have_moments(pair: &KeyPair) -> bool
     requires { IsPair pair.now }
     ensures { result ≡ have_moments pair.now }
 {
-    pair.a.days.kind() == Kind::Moments && pair.days_b().kind() == Kind::Moments
+    are_moments(pair.a.days.kind(), pair.days_b().kind())
 }
 
 // What is said of the times of a key.

@@ -1,13 +1,11 @@
 use Rattle.std.proofs.Common.{codes, to_z-of_z}
-use Rattle.rr_trip.specs.Grid.{months_legend, usual_text}
-use Rattle.rr_trip.proofs.GridLemmas.{put_three}
+use Rattle.rr_trip.specs.Grid.{day_times_text}
+use Rattle.rr_trip.proofs.GridLemmas.{put_last}
 use Rattle.rr_trip.proofs.grid.push_notes.Goals as goal
 
 pub returns : goal.returns
 returns g c =
-    let a = g.A.DaySeq.sketch c.args.a.now in
-    let b = g.B.DaySeq.sketch c.args.b.now in
-    put_three c.push_months_legend.result c.push_months_legend.new.out.items c.push_usual.new.out.items c.push.new.out.items c.args.out.now.items
-    (codes "\n= both, x both at other times, A or B one alone, . none\n") (usual_text a.kind b.kind c.args.usual.now)
-    (months_legend c.args.usual.now a b c.args.first) c.in_ok-push.ensures
-    (rw (c.kind.ensures, c.kind-2.ensures) at c.in_ok-push_usual.ensures) (rw (to_z-of_z c.ranges.first) at c.push_months_legend.ensures)
+    put_last c.push_day_times.result c.push_day_times.new.out.items c.push.new.out.items c.args.out.now.items
+    (codes "\n= both, x both at other times, A or B one alone, . none\n")
+    (day_times_text c.args.usual.now (g.A.DaySeq.sketch c.args.a.now) (g.B.DaySeq.sketch c.args.b.now) c.args.first)
+    c.in_ok-push.ensures (rw (to_z-of_z c.ranges.first) at c.push_day_times.ensures)
