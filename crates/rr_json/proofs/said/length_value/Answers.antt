@@ -1,0 +1,5 @@
+use Rattle.rr_json.proofs.TextLemmas.{length_utf8, utf8_of}
+use Rattle.rr_json.proofs.said.length_value.Goals as goal
+
+pub utf8_value-requires : goal.utf8_value-requires
+utf8_value-requires c = utf8_of _ _ _ _ c.deref.ensures.value c.in_ok-push_length.ensures c.new-text.ensures.items (length_utf8 c.args.length)

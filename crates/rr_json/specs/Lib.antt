@@ -1,0 +1,4 @@
+pub mod Event
+pub mod Files
+pub mod Json
+pub mod Laws
