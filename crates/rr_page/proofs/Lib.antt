@@ -1,0 +1,3 @@
+pub mod DetailLemmas
+pub mod PageLemmas
+pub mod PutLemmas
