@@ -391,7 +391,8 @@ def defined_pages(table):
 
 
 def calendars_release(table):
-    return constant("VERSION", f"rr-calendars {(TOP / VERSION).read_text().strip()}\n")[:-1]
+    release = (TOP / VERSION).read_text().strip()
+    return constant("VERSION", f"rr-calendars {release}\n") + f'/// The release alone.\npub const RELEASE: &str = "{release}";\n'
 
 
 PLACES = {

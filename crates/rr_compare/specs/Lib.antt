@@ -5,5 +5,6 @@ pub mod Languages
 pub mod Names
 pub mod Turned
 pub mod Calendars
+pub mod Facts
 pub mod Answer
 pub mod Outcomes

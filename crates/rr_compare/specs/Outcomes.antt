@@ -7,8 +7,7 @@ use Rattle.rr_compare.specs.Calendars.{Texts, calendar_in, calendar_of, with_mea
 use Rattle.rr_compare.specs.Names.{meaning_of_names}
 use Rattle.rr_compare.specs.declared.answers.CalendarText.{CalendarText}
 use Rattle.rr_compare.specs.declared.answers.Outcome.{Outcome}
-use Rattle.rr_compare.specs.declared.file.ReadFile.{ReadFile}
-use Rattle.rr_compare.specs.declared.names.Names.{Names}
+use Rattle.rr_compare.specs.declared.answers.ZonedFile.{ZonedFile}
 use Rattle.rr_compare.specs.declared.texts.Texts.{Texts as GivenTexts}
 
 -- the status and the bytes of an outcome, and its count
@@ -25,5 +24,5 @@ text_calendar text =
     with_meaning (calendar_of text.language text.is_lenient (meaning_of_names text.names) text.names.offset text.bytes.now) (meaning_of_names text.names)
 
 -- the calendar that was read, with what the names of its zones mean
-abbrev pub zoned_in : ReadFile → Names → ZonedCalendar
-zoned_in file names = zoned (calendar_in file) (meaning_of_names names)
+abbrev pub zoned_in : ZonedFile → ZonedCalendar
+zoned_in calendar = zoned (calendar_in calendar.file.now) (meaning_of_names calendar.names.now)

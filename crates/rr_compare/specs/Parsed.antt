@@ -41,6 +41,7 @@ given_in given = record {
   offset = given.offset;
   zones = word_in given.zones;
   show = word_in given.show;
+  form = given.form;
   next = given.next;
 }
 
@@ -56,6 +57,7 @@ request_in request = record {
   offset = request.offset;
   zones = word_in request.zones;
   show = word_in request.show;
+  form = request.form;
 }
 
 -- what is asked by a request of the program

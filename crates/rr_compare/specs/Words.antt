@@ -4,12 +4,14 @@ use Rattle.std.specs.Prelude.{Option, Some, None, option_and_then, option_map, b
 use Rattle.std.specs.Option.{is_some}
 use Rattle.rr_text.specs.Offset.{offset_of}
 use Rattle.rr_compare.specs.Operands.{Operand, operand_of}
+use Rattle.rr_compare.specs.declared.words.Form.{Form}
+use Rattle.rr_compare.specs.declared.words.Form.TheVariants.{Lines, Json, Html}
 use Rattle.rr_compare.specs.declared.words.Next.{Next}
 use Rattle.rr_compare.specs.declared.words.Next.TheVariants.{Word, Offset, Zones, Name}
 
 -- what is asked of two files: which they are, whether equal events are left out, whether lines have titles, whether what is at odds with
 -- RFC 5545 is refused, whether events are found again by their UID alone, the stated offset of both from UTC in seconds, the name of a file that
--- defines further zones, and that of the only event that is asked for
+-- defines further zones, that of the only event that is asked for, and in which form all of them are told
 pub record Request : Type 0 where
   pub old : Operand
   pub new : Operand
@@ -20,6 +22,7 @@ pub record Request : Type 0 where
   pub offset : Option ℤ
   pub zones : Option (List ℕ)
   pub show : Option (List ℕ)
+  pub form : Form
 
 -- what the words of the command ask for
 pub data Asked : Type 0 where
@@ -38,11 +41,12 @@ pub record Given : Type 0 where
   pub offset : Option ℤ
   pub zones : Option (List ℕ)
   pub show : Option (List ℕ)
+  pub form : Form
   pub next : Next
 
 -- what is stated before the first word
 abbrev pub nothing_given : Given
-nothing_given = record { old = None; new = None; only_differences = false; titles = false; strict = false; by_uid = false; offset = None; zones = None; show = None; next = Word }
+nothing_given = record { old = None; new = None; only_differences = false; titles = false; strict = false; by_uid = false; offset = None; zones = None; show = None; form = Lines; next = Word }
 
 -- an offset from UTC: hours after their sign, a colon, and minutes
 abbrev pub offset_in : List ℕ → Option ℤ
@@ -72,17 +76,25 @@ abbrev pub with_name : Given → List ℕ → Option Given
 with_name given [] = None
 with_name given (b ∷ bs) = Some (record given { show = Some (b ∷ bs); next = Word })
 
--- the words so far with one word more that is no option's value; each option may be given once
+-- a form is that of lines
+abbrev pub is_lines : Form → Bool
+is_lines Lines = true
+is_lines Json = false
+is_lines Html = false
+
+-- the words so far with one word more that is no option's value; each option may be given once, and one form
 abbrev pub with_option : Given → List ℕ → Option Given
 with_option given word =
     if bytes_eq word (codes "--differences") && not given.only_differences then Some (record given { only_differences = true })
     else (if bytes_eq word (codes "--titles") && not given.titles then Some (record given { titles = true })
+    else (if bytes_eq word (codes "--json") && is_lines given.form then Some (record given { form = Json })
+    else (if bytes_eq word (codes "--html") && is_lines given.form then Some (record given { form = Html })
     else (if bytes_eq word (codes "--strict") && not given.strict then Some (record given { strict = true })
     else (if bytes_eq word (codes "--by-uid") && not given.by_uid then Some (record given { by_uid = true })
     else (if bytes_eq word (codes "--offset") && not (is_some given.offset) then Some (record given { next = Offset })
     else (if bytes_eq word (codes "--zones") && not (is_some given.zones) then Some (record given { next = Zones })
     else (if bytes_eq word (codes "--show") && not (is_some given.show) then Some (record given { next = Name })
-    else with_file given word))))))
+    else with_file given word))))))))
 
 -- the words so far with one word more, by what the word before asks for; None where it is refused
 abbrev pub with_next : Next → Given → List ℕ → Option Given
@@ -125,21 +137,28 @@ abbrev pub share_input : Operand → Operand → Option (List ℕ) → Bool
 share_input old new zones =
     if is_input_named zones then is_input old.name || is_input new.name else (is_input old.name && is_input new.name)
 
--- what a comparison of two files asks for; None if an option waits for its value, or two of the files are standard input
+-- one event alone is asked for, which is told in lines, and another form for all of them
+abbrev pub is_torn : Option (List ℕ) → Form → Bool
+is_torn show form = is_some show && not (is_lines form)
+
+-- What a comparison of two files asks for; None if an option waits for its value, two of the files are standard input, or one event is asked for
+-- in a form of all. In a form that is not lines all events have titles.
 abbrev pub request_by : Given → Operand → Operand → Option Request
 request_by given old new =
     if not (is_word given.next) || share_input old new given.zones then None
+    else (if is_torn given.show given.form then None
     else Some (record {
       old = old;
       new = new;
       only_differences = given.only_differences;
-      titles = given.titles;
+      titles = given.titles || not (is_lines given.form);
       strict = given.strict;
       by_uid = given.by_uid;
       offset = given.offset;
       zones = given.zones;
       show = given.show;
-    })
+      form = given.form;
+    }))
 
 -- the comparison that the words ask
 abbrev pub request_of : Given → Option Request

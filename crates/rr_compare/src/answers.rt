@@ -1,12 +1,15 @@
 // What is answered to words, over the bytes of the files.
 ghost use Rattle.std.specs.Prelude.{◌≡◌, All, IfOk, option_map};
-ghost use Rattle.rr_compare.specs.Answer.{IsAnswer, IsCompared, IsComparedWith, IsFaultAnswer, IsNamed, IsOfBoth, IsReported, report_answer, status_by, utc_count};
-ghost use Rattle.rr_compare.specs.Calendars.{new_as, new_calendar, offset_by, old_as, old_calendar, two_texts};
+ghost use Rattle.rr_compare.specs.Answer.{IsAnswer, IsCompared, IsComparedWith, IsFaultAnswer, IsNamed, IsOfBoth, IsPrinted, IsRefusalPrinted, IsReported, TellsOf, status_by, utc_count};
+ghost use Rattle.rr_compare.specs.Calendars.{new_as, new_calendar, old_as, old_calendar, stated_read, two_texts};
+ghost use Rattle.rr_compare.specs.Facts.{facts_of, facts_on};
 ghost use Rattle.rr_compare.specs.Outcomes.{outcome_is, text_calendar, texts_in, zoned_in};
 ghost use Rattle.rr_compare.specs.Parsed.{asked_in, asked_of_words, request_in};
 ghost use Rattle.rr_compare.specs.Words.{of_two_texts};
+ghost use Rattle.rr_facts.specs.Facts.{facts_in};
 ghost use Rattle.rr_trip.specs.Said.{IsPrintableSaid};
 
+use crate::facts::{facts_of, offset_by};
 use crate::file::ReadFile;
 use crate::language::language_by;
 use crate::names::Names;
@@ -14,9 +17,12 @@ use crate::operand::Language;
 use crate::release::VERSION;
 use crate::status::Status;
 use crate::texts::{Texts, text_in, zones_of};
-use crate::words::{Asked, HELP, Request, USAGE, parse_of_two};
+use crate::words::{Asked, Form, HELP, Request, USAGE, parse_of_two};
+use rr_facts::Facts;
+use rr_json::{print_json, print_json_refusal};
 use rr_model::{NoMemory, Side};
-use rr_seam::FileFault;
+use rr_page::{print_page, print_page_refusal};
+use rr_seam::{FileFault, FileRefusal};
 use rr_trip::{Report, Said, Unwatched, Watch, compare, is_in_utc, print, print_refusal, show};
 use std::alloc::Global;
 
@@ -42,17 +48,40 @@ fn status_by(ending: rr_trip::Status) -> Status
     }
 }
 
-// What is said of a report.
+// What is printed of a report of these calendars, in a form.
+fn printed(
+    alloc: Global,
+    form: Form,
+    facts: &Facts,
+    a: &ReadFile,
+    b: &ReadFile,
+    report: &Report,
+) -> Result<Vec<u8>, NoMemory>
+    requires { All (λ line. IsPrintableSaid line.said) report.now.lines.items }
+    ensures { IfOk result (λ text. IsPrinted form (facts_in facts.now) (stated_read a.now)
+        (stated_read b.now) report.now.lines.items text.items) }
+{
+    match form {
+        Form::Lines => print(alloc, facts.only_differences, report),
+        Form::Json => print_json(alloc, facts, report),
+        Form::Html => print_page(alloc, facts, a, b, report),
+    }
+}
+
+// What is said of a report of these calendars.
 fn report_outcome(
     alloc: Global,
-    only_differences: bool,
+    form: Form,
+    facts: &Facts,
+    a: &ReadFile,
+    b: &ReadFile,
     report: &Report,
 ) -> Result<Outcome, NoMemory>
     requires { All (λ line. IsPrintableSaid line.said) report.now.lines.items }
-    ensures answer { IfOk result (λ x. outcome_is x
-        ≡ report_answer only_differences report.now.lines.items) }
+    ensures answer { IfOk result (λ x. TellsOf form (facts_in facts.now) (stated_read a.now)
+        (stated_read b.now) report.now.lines.items (outcome_is x)) }
 {
-    let text = print(alloc, only_differences, report)?;
+    let text = printed(alloc, form, facts, a, b, report)?;
     Ok(Outcome {
         status: status_by(report.counts().status()),
         text,
@@ -60,23 +89,36 @@ fn report_outcome(
     })
 }
 
+// A file that was read, with what the names of its zones mean.
+#[derive(Clone, Copy)]
+struct ZonedFile<'f, 't, 'm, 'n, 'a> {
+    file: &'f ReadFile<'t>,
+    names: &'m Names<'n, 'a>,
+}
+
 // What is said of the report of two calendars.
 fn comparison_outcome<W: Watch>(
     alloc: Global,
-    only_differences: bool,
-    by_uid: bool,
-    titles: bool,
-    a: &ReadFile,
-    names_a: &Names,
-    b: &ReadFile,
-    names_b: &Names,
+    request: Request,
+    facts: &Facts,
+    a: ZonedFile,
+    b: ZonedFile,
     watch: &mut W,
 ) -> Result<Outcome, NoMemory>
-    ensures { IfOk result (λ x. IsReported only_differences by_uid titles
-        (zoned_in a.now names_a.now) (zoned_in b.now names_b.now) (outcome_is x)) }
+    ensures { IfOk result (λ x. IsReported (request_in request.entry) (facts_in facts.now)
+        (zoned_in a.entry) (zoned_in b.entry) (outcome_is x)) }
 {
-    let report = compare(alloc, a, names_a, b, names_b, by_uid, titles, watch)?;
-    report_outcome(alloc, only_differences, &report)
+    let report = compare(
+        alloc,
+        a.file,
+        a.names,
+        b.file,
+        b.names,
+        request.by_uid,
+        request.titles,
+        watch,
+    )?;
+    report_outcome(alloc, request.form, facts, a.file, b.file, &report)
 }
 
 // How many events state UTC beside local time if this is said of one name.
@@ -95,20 +137,18 @@ fn name_outcome(
     name: &str,
     by_uid: bool,
     titles: bool,
-    a: &ReadFile,
-    names_a: &Names,
-    b: &ReadFile,
-    names_b: &Names,
+    a: ZonedFile,
+    b: ZonedFile,
 ) -> Result<Outcome, NoMemory>
-    ensures { IfOk result (λ x. IsNamed name.now by_uid titles (zoned_in a.now names_a.now)
-        (zoned_in b.now names_b.now) (outcome_is x)) }
+    ensures { IfOk result (λ x. IsNamed name.now by_uid titles (zoned_in a.entry)
+        (zoned_in b.entry) (outcome_is x)) }
 {
     let shown = show(
         alloc,
-        a,
-        names_a,
-        b,
-        names_b,
+        a.file,
+        a.names,
+        b.file,
+        b.names,
         name.as_bytes(),
         by_uid,
         titles,
@@ -124,45 +164,51 @@ fn name_outcome(
 fn outcome_of_both<W: Watch>(
     alloc: Global,
     request: Request,
-    a: &ReadFile,
-    names_a: &Names,
-    b: &ReadFile,
-    names_b: &Names,
+    facts: &Facts,
+    a: ZonedFile,
+    b: ZonedFile,
     watch: &mut W,
 ) -> Result<Outcome, NoMemory>
-    ensures { IfOk result (λ x. IsOfBoth (request_in request.entry).show
-        request.entry.only_differences request.entry.by_uid request.entry.titles
-        (zoned_in a.now names_a.now) (zoned_in b.now names_b.now) (outcome_is x)) }
+    ensures { IfOk result (λ x. IsOfBoth (request_in request.entry).show (request_in request.entry)
+        (facts_in facts.now) (zoned_in a.entry) (zoned_in b.entry) (outcome_is x)) }
 {
-    let by_uid = request.by_uid;
-    let titles = request.titles;
     match request.show {
-        None => {
-            let only_differences = request.only_differences;
-            comparison_outcome(
-                alloc,
-                only_differences,
-                by_uid,
-                titles,
-                a,
-                names_a,
-                b,
-                names_b,
-                watch,
-            )
-        }
-        Some(name) => name_outcome(alloc, name, by_uid, titles, a, names_a, b, names_b),
+        None => comparison_outcome(alloc, request, facts, a, b, watch),
+        Some(name) => name_outcome(alloc, name, request.by_uid, request.titles, a, b),
+    }
+}
+
+// What is printed of a file that is refused, in a form.
+fn printed_refusal(
+    alloc: Global,
+    form: Form,
+    facts: &Facts,
+    side: Side,
+    refusal: FileRefusal,
+) -> Result<Vec<u8>, NoMemory>
+    ensures { IfOk result (λ text. IsRefusalPrinted form (facts_in facts.now) side refusal text.items) }
+{
+    match form {
+        Form::Lines => print_refusal(alloc, side, refusal),
+        Form::Json => print_json_refusal(alloc, facts, side, refusal),
+        Form::Html => print_page_refusal(alloc, facts, side, refusal),
     }
 }
 
 // What is said of a file that is refused.
-fn refusal_outcome(alloc: Global, side: Side, fault: FileFault) -> Result<Outcome, NoMemory>
-    ensures { IfOk result (λ x. IsFaultAnswer side fault (outcome_is x)) }
+fn refusal_outcome(
+    alloc: Global,
+    form: Form,
+    facts: &Facts,
+    side: Side,
+    fault: FileFault,
+) -> Result<Outcome, NoMemory>
+    ensures { IfOk result (λ x. IsFaultAnswer form (facts_in facts.now) side fault (outcome_is x)) }
 {
     match fault {
         FileFault::Refused(refusal) => Ok(Outcome {
             status: Status::Refused,
-            text: print_refusal(alloc, side, refusal)?,
+            text: printed_refusal(alloc, form, facts, side, refusal)?,
             in_utc: 0,
         }),
         FileFault::NoMemory => Err(NoMemory),
@@ -182,17 +228,23 @@ struct CalendarText<'t, 'n, 'a> {
 fn outcome_beside<W: Watch>(
     alloc: Global,
     request: Request,
-    a: &ReadFile,
-    names_a: &Names,
+    facts: &Facts,
+    a: ZonedFile,
     new: CalendarText,
     watch: &mut W,
 ) -> Result<Outcome, NoMemory>
-    ensures { IfOk result (λ x. IsComparedWith (request_in request.entry)
-        (zoned_in a.now names_a.now) (text_calendar new.entry) (outcome_is x)) }
+    ensures { IfOk result (λ x. IsComparedWith (request_in request.entry) (facts_in facts.now)
+        (zoned_in a.entry) (text_calendar new.entry) (outcome_is x)) }
 {
     match ReadFile::read(alloc, new.language, new.is_lenient, &new.names, new.bytes) {
-        Ok(b) => outcome_of_both(alloc, request, a, names_a, &b, &new.names, watch),
-        Err(fault) => refusal_outcome(alloc, Side::B, fault),
+        Ok(file) => {
+            let b = ZonedFile {
+                file: &file,
+                names: &new.names,
+            };
+            outcome_of_both(alloc, request, facts, a, b, watch)
+        }
+        Err(fault) => refusal_outcome(alloc, request.form, facts, Side::B, fault),
     }
 }
 
@@ -200,26 +252,23 @@ fn outcome_beside<W: Watch>(
 fn compared_outcome<W: Watch>(
     alloc: Global,
     request: Request,
+    facts: &Facts,
     old: CalendarText,
     new: CalendarText,
     watch: &mut W,
 ) -> Result<Outcome, NoMemory>
-    ensures { IfOk result (λ x. IsCompared (request_in request.entry) (text_calendar old.entry)
-        (text_calendar new.entry) (outcome_is x)) }
+    ensures { IfOk result (λ x. IsCompared (request_in request.entry) (facts_in facts.now)
+        (text_calendar old.entry) (text_calendar new.entry) (outcome_is x)) }
 {
     match ReadFile::read(alloc, old.language, old.is_lenient, &old.names, old.bytes) {
-        Ok(a) => outcome_beside(alloc, request, &a, &old.names, new, watch),
-        Err(fault) => refusal_outcome(alloc, Side::A, fault),
-    }
-}
-
-// The stated offset of a file: its own, otherwise that of both.
-fn offset_by(own: Option<i32>, both: Option<i32>) -> Option<i32>
-    ensures { result ≡ offset_by own both }
-{
-    match own {
-        Some(offset) => Some(offset),
-        None => both,
+        Ok(file) => {
+            let a = ZonedFile {
+                file: &file,
+                names: &old.names,
+            };
+            outcome_beside(alloc, request, facts, a, new, watch)
+        }
+        Err(fault) => refusal_outcome(alloc, request.form, facts, Side::A, fault),
     }
 }
 
@@ -233,6 +282,7 @@ fn outcome_in<W: Watch>(
     watch: &mut W,
 ) -> Result<Outcome, NoMemory>
     ensures { IfOk result (λ x. IsCompared (request_in request.entry)
+        (facts_of (request_in request.entry) a b (texts_in texts.entry))
         (old_as a b (request_in request.entry) (texts_in texts.entry))
         (new_as a b (request_in request.entry) (texts_in texts.entry))
         (outcome_is x)) }
@@ -240,6 +290,7 @@ fn outcome_in<W: Watch>(
     let old = text_in(alloc, a, texts.old)?;
     let new = text_in(alloc, b, texts.new)?;
     let zones = zones_of(alloc, a, b, texts)?;
+    let facts = facts_of(request, a, b, texts);
     let a = CalendarText {
         language: a,
         is_lenient: !request.strict,
@@ -262,7 +313,7 @@ fn outcome_in<W: Watch>(
             offset: offset_by(request.new.offset, request.offset),
         },
     };
-    compared_outcome(alloc, request, a, b, watch)
+    compared_outcome(alloc, request, &facts, a, b, watch)
 }
 
 // What is said of two files, each in its language.
@@ -273,6 +324,7 @@ fn files_outcome<W: Watch>(
     watch: &mut W,
 ) -> Result<Outcome, NoMemory>
     ensures { IfOk result (λ x. IsCompared (request_in request.entry)
+        (facts_on (request_in request.entry) (texts_in texts.entry))
         (old_calendar (request_in request.entry) (texts_in texts.entry))
         (new_calendar (request_in request.entry) (texts_in texts.entry))
         (outcome_is x)) }
@@ -313,7 +365,8 @@ pub fn answer_to<W: Watch>(
     }
 }
 
-/// What words answer over two texts: the usage line if they ask nothing of these alone. The names of the files are of no account.
+/// What words answer over two texts: the usage line if they ask nothing of these alone. The names of the files are told with `--json` and
+/// `--html` as the words state them, and are of no account otherwise.
 pub fn answer(alloc: Global, words: &[&str], old: &[u8], new: &[u8]) -> Result<Outcome, NoMemory>
     ensures { IfOk result (λ x. IsAnswer (of_two_texts (asked_of_words words.now))
         (two_texts old.now new.now) (outcome_is x)) }

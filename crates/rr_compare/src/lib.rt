@@ -2,6 +2,7 @@
 #![tactic(auto)]
 
 mod answers;
+mod facts;
 mod file;
 mod graph;
 mod language;
@@ -17,4 +18,4 @@ pub use language::language_by;
 pub use operand::{Language, Operand};
 pub use status::Status;
 pub use texts::Texts;
-pub use words::{Asked, HELP, Request, USAGE, parse};
+pub use words::{Asked, Form, HELP, Request, USAGE, parse};

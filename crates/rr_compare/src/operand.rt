@@ -1,5 +1,6 @@
 // A word that names a calendar file, before whose name its language and its own offset may stand.
 ghost use Rattle.std.specs.Prelude.{◌≡◌, option_map};
+ghost use Rattle.rr_compare.specs.Facts.{word_of};
 ghost use Rattle.rr_compare.specs.Operands.{bare, by_language, by_offset, by_parts, language_of, named, operand_of, split_around, with_own_offset};
 ghost use Rattle.rr_compare.specs.Parsed.{operand_in};
 
@@ -14,6 +15,17 @@ pub enum Language {
     Graph,
     /// vCalendar 1.0.
     Vcal,
+}
+
+/// The word of a language.
+pub(crate) fn word_of(language: Language) -> &'static str
+    ensures { result.now ≡ word_of language }
+{
+    match language {
+        Language::Ics => "ics",
+        Language::Graph => "graph",
+        Language::Vcal => "vcal",
+    }
 }
 
 /// A calendar file as words state it.

@@ -1,6 +1,6 @@
 // The words of the command line.
 ghost use Rattle.std.specs.Prelude.{◌≡◌, option_map};
-ghost use Rattle.rr_compare.specs.Words.{given_of, is_input, is_only, is_word, of_two_texts, offset_in, request_of, share_input, with_file, with_name, with_offset, with_operand, with_option, with_word, with_zones};
+ghost use Rattle.rr_compare.specs.Words.{given_of, is_input, is_lines, is_only, is_torn, is_word, of_two_texts, offset_in, request_of, share_input, with_file, with_name, with_offset, with_operand, with_option, with_word, with_zones};
 ghost use Rattle.rr_compare.specs.Parsed.{asked_in, asked_of_words, given_in, operand_in, request_in, word_in, words_of};
 
 use crate::operand::{Operand, operand_of};
@@ -8,13 +8,13 @@ use rr_text::offset_of;
 
 /// What is said of words that ask nothing.
 pub const USAGE: &[u8] =
-    b"usage: rr-calendars OLD NEW [--differences] [--titles] [--strict] [--by-uid] [--offset +HH:MM] [--zones FILE] [--show UID]\n";
+    b"usage: rr-calendars OLD NEW [--differences] [--titles] [--json | --html] [--strict] [--by-uid] [--offset +HH:MM] [--zones FILE] [--show UID]\n";
 
 /// The page of help.
 pub const HELP: &[u8] =
     b"rr-calendars says of two calendar files whether each event survived the trip between them, for all years to come.
 
-  rr-calendars OLD NEW [--differences] [--titles] [--strict] [--by-uid] [--offset +HH:MM] [--zones FILE] [--show UID]
+  rr-calendars OLD NEW [--differences] [--titles] [--json | --html] [--strict] [--by-uid] [--offset +HH:MM] [--zones FILE] [--show UID]
   rr-calendars --help, this page, or --version, the release
 
 OLD and NEW are calendar files of at most 64 MiB; one of the two may be - for standard input. Before a name its language may stand:
@@ -32,9 +32,10 @@ Events are found again by their UID, those of Graph by their iCalUId. There is a
 
 An event whose UID the other file lacks, or that has none, is found again without it, among those of the other file that are left so: by
 its title and its first 64 occurrences, then by its title and the first one alone, then by the 64 alone, if one event in each file is left
-with them; by its title alone if it cannot be read or nothing occurs in it. Of several that are the same so the first goes with the first, the second with
-the second, if both files have as many. A pair is compared as any event is, in one line with both UIDs, as equal UID = UID-IN-NEW; title
-stands behind it if the titles differ. --by-uid finds events by their UID alone, and those without one by their line.
+with them; by its title alone if it cannot be read or nothing occurs in it. Of several that are the same so the first goes with the first,
+the second with the second, if both files have as many. A pair is compared as any event is, in one line with both UIDs, as
+equal UID = UID-IN-NEW; title stands behind it if the titles differ. --by-uid finds events by their UID alone, and those without one by
+their line.
 
 Times are compared as moments if the zones of both sides are defined: by a VTIMEZONE of the same file, of the other one, or of FILE,
 where Windows' names stand for those of tzdata. Behind a moment stands then how far local time is ahead of UTC, or Z. Otherwise
@@ -48,6 +49,8 @@ Moments of UTC beside local time are read by the zones that the file defines; --
 zone turns, and for events without a zone.
 The last line counts them all, and as matched those that were found without their UID. On a terminal a comparison of more than a second
 says how far it is.
+--json prints all of this as one object of JSON, for programs; --html as one page to look at, which needs nothing from elsewhere, with the
+differing events first, their rules in words and the months of their first difference. Both have titles, and --show beside neither.
 
 --show UID prints the line of this event alone, and below it, if it differs, how many differences more there are and until when
 (more 51 until MOMENT, more 0, more for ever, more 9999 at least), and of the month of the first one and the two after it those that
@@ -60,6 +63,17 @@ The status is 0 if all are equal or alike, 1 if one differs, in length too, or s
 equal with zone behind it, 3 for other words, 4 if a file could not be read, 5 if the output could not be written, 6 out of memory,
 7 if a word is no text in UTF-8.
 ";
+
+/// In which form a comparison is told.
+#[derive(Clone, Copy, Debug, PartialEq, Eq)]
+pub enum Form {
+    /// A line for each event.
+    Lines,
+    /// One JSON object.
+    Json,
+    /// One page of HTML.
+    Html,
+}
 
 /// What is asked of two files.
 #[derive(Clone, Copy)]
@@ -82,6 +96,8 @@ pub struct Request<'a> {
     pub zones: Option<&'a str>,
     /// The name of the only event that is asked for, as a report prints it, which is not empty.
     pub show: Option<&'a str>,
+    /// In which form all events are told, if none is asked for alone, and the refusal of a file in either case.
+    pub form: Form,
 }
 
 /// What the words ask.
@@ -120,6 +136,7 @@ struct Given<'a> {
     offset: Option<i32>,
     zones: Option<&'a str>,
     show: Option<&'a str>,
+    form: Form,
     next: Next,
 }
 
@@ -202,7 +219,14 @@ fn with_name<'a>(given: Given<'a>, name: &'a str) -> Option<Given<'a>>
     })
 }
 
-// With a word that is no option's value. Each option is given once.
+// Whether a form is that of lines.
+fn is_lines(form: Form) -> bool
+    ensures { result ≡ is_lines form }
+{
+    matches!(form, Form::Lines)
+}
+
+// With a word that is no option's value. Each option is given once, and one form.
 fn with_option<'a>(given: Given<'a>, word: &'a str) -> Option<Given<'a>>
     ensures { option_map given_in result ≡ with_option (given_in given.entry) word.now }
 {
@@ -213,6 +237,14 @@ fn with_option<'a>(given: Given<'a>, word: &'a str) -> Option<Given<'a>>
         }),
         "--titles" if !given.titles => Some(Given {
             titles: true,
+            ..given
+        }),
+        "--json" if is_lines(given.form) => Some(Given {
+            form: Form::Json,
+            ..given
+        }),
+        "--html" if is_lines(given.form) => Some(Given {
+            form: Form::Html,
             ..given
         }),
         "--strict" if !given.strict => Some(Given {
@@ -265,6 +297,7 @@ fn given_of<'a>(words: &[&'a str]) -> Option<Given<'a>>
         offset: None,
         zones: None,
         show: None,
+        form: Form::Lines,
         next: Next::Word,
     };
     for word in words {
@@ -299,7 +332,14 @@ fn share_input(old: Operand, new: Operand, zones: Option<&str>) -> bool
     }
 }
 
-// The comparison that the words ask. Standard input, `-`, can be one of the files alone.
+// Whether one event alone is asked for, which is told in lines, and another form for all of them.
+fn is_torn(show: Option<&str>, form: Form) -> bool
+    ensures { result ≡ is_torn (word_in show.entry) form }
+{
+    show.is_some() && !is_lines(form)
+}
+
+// The comparison that the words ask. Standard input, `-`, can be one of the files alone. In a form that is not lines all events have titles.
 fn request_of<'a>(given: Given<'a>) -> Option<Request<'a>>
     ensures { option_map request_in result ≡ request_of (given_in given.entry) }
 {
@@ -308,16 +348,20 @@ fn request_of<'a>(given: Given<'a>) -> Option<Request<'a>>
     if !is_word(given.next) || share_input(old, new, given.zones) {
         return None;
     }
+    if is_torn(given.show, given.form) {
+        return None;
+    }
     Some(Request {
         old,
         new,
         only_differences: given.only_differences,
-        titles: given.titles,
+        titles: given.titles || !is_lines(given.form),
         strict: given.strict,
         by_uid: given.by_uid,
         offset: given.offset,
         zones: given.zones,
         show: given.show,
+        form: given.form,
     })
 }
 
@@ -331,8 +375,8 @@ fn is_only(word: &str, words: &[&str]) -> bool
     words[0] == word
 }
 
-/// What the words ask, where they ask something: `--help` or `--version` alone, or two files, with `--differences`, `--titles`, `--strict`,
-/// `--by-uid`, `--offset`, `--zones` and `--show` at any place.
+/// What the words ask, where they ask something: `--help` or `--version` alone, or two files, with `--differences`, `--titles`, `--json` or
+/// `--html`, `--strict`, `--by-uid`, `--offset`, `--zones` and `--show` at any place; `--show` stands beside neither `--json` nor `--html`.
 #[tactic(auto, unfolding(crate::specs::Words::asked_of))]
 pub fn parse<'a>(words: &[&'a str]) -> Option<Asked<'a>>
     ensures { option_map asked_in result ≡ asked_of_words words.now }

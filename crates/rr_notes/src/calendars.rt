@@ -86,6 +86,8 @@ fn note_on_option(alloc: Global, word: &str) -> Result<Option<String>, AllocErro
     match word {
         "--differences" => Ok(None),
         "--titles" => Ok(None),
+        "--json" => Ok(None),
+        "--html" => Ok(None),
         "--strict" => Ok(None),
         "--by-uid" => Ok(None),
         "--offset" => Ok(None),
@@ -96,7 +98,7 @@ fn note_on_option(alloc: Global, word: &str) -> Result<Option<String>, AllocErro
         _ => {
             let word = shown(alloc, word)?;
             Ok(Some(format!(in alloc;
-                "{word} is no option: these are --differences, --titles, --strict, --by-uid, --offset, --zones, --show and --help"
+                "{word} is no option: these are --differences, --titles, --json, --html, --strict, --by-uid, --offset, --zones, --show and --help"
             )?))
         }
     }
@@ -157,6 +159,33 @@ fn are_zones_input(words: &[&str]) -> bool {
     false
 }
 
+// Whether an option is among the words, and not a word behind another one.
+fn has_option(words: &[&str], wanted: &str) -> bool {
+    let mut option = "";
+    for word in words {
+        let word: &str = word;
+        let is_value = takes_word(option);
+        if !is_value && word == wanted {
+            return true;
+        }
+        option = if is_value { "" } else { word };
+    }
+    false
+}
+
+// What is wrong with options each of which is right by itself.
+fn text_on_options(words: &[&str]) -> &'static str {
+    let is_json = has_option(words, "--json");
+    let is_html = has_option(words, "--html");
+    if is_json && is_html {
+        "--json and --html are two forms of one report: give one of them"
+    } else if (is_json || is_html) && has_option(words, "--show") {
+        "--show stands beside neither --json nor --html, which tell all events"
+    } else {
+        "an option stands twice"
+    }
+}
+
 // What is wrong with words that ask nothing.
 fn text_on_words(alloc: Global, words: &[&str]) -> Result<String, AllocError> {
     if let Some(text) = note_on_first(alloc, words)? {
@@ -170,7 +199,8 @@ fn text_on_words(alloc: Global, words: &[&str]) -> Result<String, AllocError> {
             if (is_old && is_new) || (are_zones_input(words) && (is_old || is_new)) {
                 format!(in alloc; "standard input can be read once: one file alone may be -")
             } else {
-                format!(in alloc; "an option stands twice")
+                let text = text_on_options(words);
+                format!(in alloc; "{text}")
             }
         }
         files => {

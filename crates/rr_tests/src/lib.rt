@@ -18,9 +18,13 @@ mod events_tests;
 #[cfg(test)]
 mod expand_tests;
 #[cfg(test)]
+mod facts_tests;
+#[cfg(test)]
 mod family_tests;
 #[cfg(test)]
 mod graph_tests;
+#[cfg(test)]
+mod html_tests;
 #[cfg(test)]
 mod ical_tests;
 #[cfg(test)]
@@ -46,4 +50,8 @@ mod text_tests;
 #[cfg(test)]
 mod times_tests;
 #[cfg(test)]
+mod trip_tests;
+#[cfg(test)]
 mod vcal_tests;
+#[cfg(test)]
+mod wording_tests;

@@ -10,7 +10,7 @@ returns c =
     let shown = c.in_ok-shown.shown in
     record {
       shown = shown;
-      shows = subst (λ (name : List ℕ). IsShownIn c.args.by_uid c.args.titles (zoned_in c.args.a.now c.args.names_a.now) (zoned_in c.args.b.now c.args.names_b.now) name shown) c.as_bytes.ensures.value c.in_ok-shown.ensures;
+      shows = subst (λ (name : List ℕ). IsShownIn c.args.by_uid c.args.titles (zoned_in c.args.a) (zoned_in c.args.b) name shown) c.as_bytes.ensures.value c.in_ok-shown.ensures;
       is =
           ap (λ (s : Status). record { status = s; bytes = shown.text.items; in_utc = c.in_utc_count.result }) c.status_by.ensures
           ∙ ap (λ (n : ℕ). record { status = status_by shown.status; bytes = shown.text.items; in_utc = n }) c.in_utc_count.ensures;

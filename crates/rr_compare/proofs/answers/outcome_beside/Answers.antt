@@ -1,4 +1,5 @@
 use Rattle.std.proofs.lemmas.Result.{IfOk-weaker}
+use Rattle.rr_facts.specs.Facts.{facts_in}
 use Rattle.rr_compare.specs.Calendars.{calendar_in, calendar_of}
 use Rattle.rr_compare.specs.Names.{meaning_of_names}
 use Rattle.rr_compare.specs.Outcomes.{outcome_is, zoned_in}
@@ -11,8 +12,8 @@ returns-in-Ok g c =
     let new = c.args.new in
     let means = meaning_of_names new.names in
     IfOk-weaker c.outcome_of_both.result _ _
-    (λ x h. read_b (request_in c.args.request) (calendar_of new.language new.is_lenient means new.names.offset new.bytes.now) means (outcome_is x)
-    (zoned_in c.args.a.now c.args.names_a.now) (calendar_in c.in-Ok.b) c.in-Ok.ensures h)
+    (λ x h. read_b (request_in c.args.request) (facts_in c.args.facts.now) (calendar_of new.language new.is_lenient means new.names.offset new.bytes.now) means (outcome_is x)
+    (zoned_in c.args.a) (calendar_in c.in-Ok.file) c.in-Ok.ensures h)
     c.outcome_of_both.ensures
 
 pub returns-in-Err : goal.returns-in-Err
@@ -20,6 +21,6 @@ returns-in-Err g c =
     let new = c.args.new in
     let means = meaning_of_names new.names in
     IfOk-weaker c.refusal_outcome.result _ _
-    (λ x h. refused_b (request_in c.args.request) (calendar_of new.language new.is_lenient means new.names.offset new.bytes.now) means (outcome_is x)
-    (zoned_in c.args.a.now c.args.names_a.now) c.in-Err.fault c.in-Err.ensures h)
+    (λ x h. refused_b (request_in c.args.request) (facts_in c.args.facts.now) (calendar_of new.language new.is_lenient means new.names.offset new.bytes.now) means (outcome_is x)
+    (zoned_in c.args.a) c.in-Err.fault c.in-Err.ensures h)
     c.refusal_outcome.ensures

@@ -13,4 +13,5 @@ returns g c =
       zones.more,
       c.offset_by.ensures,
       c.offset_by-2.ensures,
+      c.facts_of-facts.ensures,
     ) at c.compared_outcome.ensures
