@@ -63,7 +63,8 @@ uint32_t rr_answer(const uint8_t *words, size_t words_length, const uint8_t *a, 
  * old_text, old_length  the bytes of the first calendar, A; one has at most 67,108,864, and more are refused as TooLong
  * new_text, new_length  the bytes of the second one, B
  *
- * The rest is as of rr_answer. The report has a line for each UID, so it may be long; rr_read_report_line reads one line of it.
+ * The rest is as of rr_answer. The report has a line for each UID, so it may be long; rr_read_report_line reads one line of it. With the word --json
+ * it is one JSON object instead, with --html a page; there the names of files are told as the words have them.
  */
 uint32_t rr_calendars_answer(const uint8_t *words, size_t words_length, const uint8_t *old_text, size_t old_length, const uint8_t *new_text,
                              size_t new_length, uint8_t *out, size_t out_length, uint64_t *length);

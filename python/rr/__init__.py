@@ -49,19 +49,19 @@ from dataclasses import dataclass
 from typing import Any, Callable, Iterable, Iterator, Literal, overload
 
 from ._library import NO, NO_MEMORY, REFUSED, TOO_SMALL, USAGE, rr_answer, rr_calendars_answer, rr_clear_answer, version
-from ._report import Calendar, Counts, EventNumber, Key, Length, More, Report, ReportLine, Shown, calendar_of, names_of, report_of, shown_of
+from ._report import Calendar, Counts, EventNumber, Key, Length, More, Report, ReportLine, Shown, calendar_of, file_name, names_of, report_of, shown_of
 from ._series import AnySeries, Language, Moment, Operand, Series, Text, is_aware, moment_of, offset_text, operand, text_of
 
 __all__ = [
     "AnySeries", "Calendar", "Clash", "Counts", "Differs", "EventNumber", "Key", "Language", "Length", "Moment", "More", "OutOfMemory", "Part", "Plan",
     "Refused", "Report", "ReportLine", "Series", "Shown", "Text", "__version__",
     "answer", "calendars", "canon", "canon1", "check", "clashes", "clear", "common", "differences", "disjoint", "equal", "infer", "minus", "nth",
-    "occurrences", "rank", "split", "translate", "union", "upcoming", "window", "within",
+    "occurrences", "rank", "report", "split", "translate", "union", "upcoming", "window", "within",
 ]
 
 __version__ = version()
-# What a line and most texts have room in; a longer answer costs a second call.
-_ROOM, _TEXT_ROOM = 4096, 65_536
+# What a line and most texts have room in, and most reports beside the bytes of their calendars; a longer answer costs a second call.
+_ROOM, _TEXT_ROOM, _REPORT_ROOM = 4096, 65_536, 4_194_304
 _LINE = len("2024-02-29T09:30:00\n")
 
 
@@ -529,15 +529,8 @@ def calendars(
     >>> calendars(party, lunch, show="Summer party").line.key
     '7'
     """
-    if rr_calendars_answer is None:
-        raise NotImplementedError("the shared library is of an older release, and compares no calendars")
     a, b = calendar_of(old), calendar_of(new)
-    words = ["a", "b"]
-    words += [] if offset is None else ["--offset", offset_text(offset)]
-    words += ["--differences"] if differences else []
-    words += ["--titles"] if titles else []
-    words += ["--strict"] if strict else []
-    words += ["--by-uid"] if by_uid else []
+    words = ["a", "b", *_options(offset, differences=differences, titles=titles, strict=strict, by_uid=by_uid)]
     asked = [words] if show is None else [[*words, "--show", name] for name in names_of(show)]
     texts = (_calendars_text(it, a, b) for it in asked)
     text = next((it for it in texts if not it.startswith("unknown ")), None)
@@ -549,10 +542,53 @@ def calendars(
     return said
 
 
-def _calendars_text(words: list[str], a: bytes, b: bytes) -> str:
-    """What is printed of two calendars."""
-    assert rr_calendars_answer is not None
-    status, out = _answer_by(rr_calendars_answer, words, a, b, _ROOM + len(a) + len(b))
+def _calendars_text(words: list[str], a: bytes, b: bytes, room: int = _ROOM) -> str:
+    """What is printed of two calendars, which may be longer than they by so many bytes."""
+    if rr_calendars_answer is None:
+        raise NotImplementedError("the shared library is of an older release, and compares no calendars")
+    status, out = _answer_by(rr_calendars_answer, words, a, b, room + len(a) + len(b))
     if status >= USAGE:
         raise ValueError(f"not within what rr takes: {' '.join(words)}")
     return out.decode()
+
+
+def _options(offset: datetime.timedelta | None, **options: bool) -> list[str]:
+    """The words of an offset and of options that are given by their names."""
+    words = [] if offset is None else ["--offset", offset_text(offset)]
+    return words + [f"--{name.replace('_', '-')}" for name, is_given in options.items() if is_given]
+
+
+@overload
+def report(old: Calendar, new: Calendar, offset: datetime.timedelta | None = None, *, html: Literal[False] = False, differences: bool = False, strict: bool = False, by_uid: bool = False) -> dict[str, Any]: ...
+@overload
+def report(old: Calendar, new: Calendar, offset: datetime.timedelta | None = None, *, html: Literal[True], differences: bool = False, strict: bool = False, by_uid: bool = False) -> str: ...
+def report(
+    old: Calendar,
+    new: Calendar,
+    offset: datetime.timedelta | None = None,
+    *,
+    html: bool = False,
+    differences: bool = False,
+    strict: bool = False,
+    by_uid: bool = False,
+) -> dict[str, Any] | str:
+    """The same report as a dictionary of JSON, as docs/CALENDARS.md has its members; with html it is a page to look at, which needs nothing from
+    elsewhere, as a text to be written in UTF-8. Both have titles. The name of a calendar is its path; of one that is no file it is `old` or `new`.
+    The refusal of a whole calendar is no exception here: the report says so, in its member `refused`.
+
+    >>> lunch = "BEGIN:VEVENT\\nUID:lunch\\nSUMMARY:Lunch\\nDTSTART:20240105T123000\\nEND:VEVENT\\n"
+    >>> said = report(lunch, lunch.replace("T12", "T13"))
+    >>> said["status"], said["counts"]["differs"], said["old"]["name"]
+    (1, 1, 'old')
+    >>> [(event["key"], event["title"], event["verdict"], event["moment"], event["side"]) for event in said["events"]]
+    [({'uid': 'lunch'}, 'Lunch', 'differs', '2024-01-05T12:30:00', 'A')]
+    >>> report(lunch, "")["refused"]["side"], report(lunch, lunch, html=True)[:15]
+    ('B', '<!doctype html>')
+    """
+    a, b = calendar_of(old), calendar_of(new)
+    words = [file_name(old, "old"), file_name(new, "new"), "--html" if html else "--json"]
+    text = _calendars_text(words + _options(offset, differences=differences, strict=strict, by_uid=by_uid), a, b, _REPORT_ROOM)
+    if html:
+        return text
+    said: dict[str, Any] = json.loads(text)
+    return said

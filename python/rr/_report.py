@@ -153,6 +153,20 @@ def calendar_of(calendar: Calendar) -> bytes:
     raise TypeError(f"a calendar is a text, bytes or a Path, and not {calendar!r}")
 
 
+def file_name(calendar: Calendar, name: str) -> str:
+    """The word by which a calendar is named: its path, before which ./ stands if it would be an option, standard input or a language otherwise;
+    of one that is no file this name.
+
+    >>> import pathlib
+    >>> [file_name(pathlib.PurePosixPath(it), "old") for it in ("a/b.ics", "-", "--b", "graph:b", "c:b")], file_name("BEGIN:VEVENT", "old")
+    (['a/b.ics', './-', './--b', './graph:b', 'c:b'], 'old')
+    """
+    if not isinstance(calendar, os.PathLike):
+        return name
+    path = os.fspath(calendar).encode("utf-8", "backslashreplace").decode()
+    return f"./{path}" if re.match("-|(ics|graph|vcal)[:@]", path) else path
+
+
 def name_of(key: Key) -> str:
     r"""A key as it is printed and asked for: of a UID each byte but the visible ones of ASCII, and the backslash, is escaped.
 

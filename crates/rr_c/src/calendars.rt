@@ -20,7 +20,7 @@ fn outcome_of(alloc: Global, words: &str, old: &[u8], new: &[u8]) -> Result<Outc
 /// What `rr-calendars` answers to words over the bytes of both files, in `out`, and how many bytes that are, in `length`.
 ///
 /// The words are those of the program's command line, in UTF-8, with a zero byte between each two. The names of the files count only in
-/// that they are not empty, do not begin with `--`, and are not both `-`. There is no third text: words with `--zones` are other words, so what
+/// that they are not empty, do not begin with `--`, and are not both `-`; with `--json` and `--html` they are told. There is no third text: words with `--zones` are other words, so what
 /// defines zones stands in one of the two.
 ///
 /// It returns the program's exit status: 0 if all events are equal, 1 if one differs or stands in one file alone, 2 if none does but one or a
