@@ -6,7 +6,7 @@ _rr_calendars() {
     --offset | --show) return ;;
     esac
     case $current in
-    -*) mapfile -t COMPREPLY < <(compgen -W '--differences --titles --strict --by-uid --offset --zones --show --help --version' -- "$current") ;;
+    -*) mapfile -t COMPREPLY < <(compgen -W '--differences --titles --json --html --strict --by-uid --offset --zones --show --help --version' -- "$current") ;;
     *)
         compopt -o filenames 2>/dev/null
         while IFS= read -r found; do

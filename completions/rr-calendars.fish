@@ -1,6 +1,8 @@
 # Completion of rr-calendars for fish: options and file names.
 complete -c rr-calendars -l differences -d 'leave out the lines of equal events'
 complete -c rr-calendars -l titles -d 'end the line of each event with its title'
+complete -c rr-calendars -l json -d 'tell all of it as one JSON object'
+complete -c rr-calendars -l html -d 'tell all of it as a page to look at'
 complete -c rr-calendars -l strict -d 'refuse what is at odds with RFC 5545'
 complete -c rr-calendars -l by-uid -d 'find events by their UID alone'
 complete -c rr-calendars -l offset -x -d 'local time less UTC, as +02:00'
