@@ -12,7 +12,7 @@ use std::marker::Model;
 
 /// The days that the date parts of a rule allow, filled from the day of its start (RFC 5545, section 3.3.10).
 ///
-/// A year's days are found by a mask, of which there are at most 56, each made at its first use and kept. Where no date
+/// A year's days are found by a mask, of which there are at most 56, each made at its first use and kept. If no date
 /// part is present or filled every day is allowed, and no date is computed.
 #[derive(Drop)]
 pub struct AllowedDays {
@@ -256,7 +256,7 @@ fn mask_of(kept: &mut Vec<Option<YearMask>>, rule: &Rule, start_day: i64, year: 
     mask
 }
 
-// Masks for the rule, or none where it allows every day.
+// Masks for the rule, or none if it allows every day.
 fn masks_for(alloc: Global, rule: &Rule) -> Result<Option<KeptMasks>, AllocError>
     ensures { IfOk result (λ m. (start : ℤ) → TellDays (filling_of rule.now start) m) }
 {

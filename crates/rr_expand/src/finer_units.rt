@@ -64,8 +64,8 @@ pub fn first_fit(first: i64, start: i64, interval: u32) -> u64
     (start - first).rem_euclid(i64::from(interval)) as u64
 }
 
-// Appends the seconds that the time parts allow in the unit of this number in its day, where the lists are the minutes
-// and the seconds that they allow.
+// Appends the seconds that the time parts allow in the unit of this number in its day; the lists are the minutes and
+// the seconds that they allow in an hour and a minute.
 pub(crate) fn push_unit(
     out: &mut Vec<u32>,
     rule: &Rule,

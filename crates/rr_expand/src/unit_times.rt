@@ -32,7 +32,7 @@ impl UnitTimes {
     }
 }
 
-// The numbers below 60 that a part allows, filled from the start's own number, of a unit that holds many; else none.
+// The numbers below 60 that a part allows, filled from the start's own number, of a unit that holds many; otherwise none.
 fn numbers_of_unit(
     alloc: Global,
     part: &Numbers,

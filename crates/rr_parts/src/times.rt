@@ -10,7 +10,7 @@ use crate::moment::Moment;
 use crate::numbers::allows_filled;
 use rr_model::{Kind, Rule, second_part};
 
-/// A time of day.
+/// A time of day, as `time_of` gives it: hours below 24, minutes and seconds below 60.
 #[derive(Clone, Copy)]
 pub struct Time {
     pub hour: u8,
@@ -31,7 +31,7 @@ pub fn time_parts_hold(rule: &Rule, start: &Moment, moment: &Moment) -> bool
     }
 }
 
-// Whether each time part, filled from the start's time where it is absent and wanted, lists the time's number.
+// Whether each time part, filled from the start's time if it is absent and wanted, lists the time's number.
 fn allows_time(rule: &Rule, own: Time, time: Time) -> bool
     ensures { result ≡ time_allowed rule.now own time }
 {

@@ -67,7 +67,7 @@ fn read_text(alloc: Global, offset: Option<i32>, bytes: &[u8]) -> Result<VSeries
 /// and EXRULE `TooManyParts`, then word by word `BadRule`, `BadMoment` of an end moment, `PartTwice` of a second number of events or
 /// end moment, `NumberRange`. At the end of the text `BadLine` for an open component, `NoStart`. Then
 /// line by line beside the start, of each date `MixedKinds`, of each date and end moment `UtcMoment` without an offset, and
-/// `BadMoment` where the offset leaves the years 1 to 9999. A refusal names the first physical line of the line at fault.
+/// `BadMoment` if the offset leaves the years 1 to 9999. A refusal names the first physical line of the line at fault.
 pub fn read(alloc: Global, bytes: &[u8], offset: Option<i32>) -> Result<VSeries, Fault>
     ensures answers { Answers (reads_vcal offset bytes.now) result }
     ensures valid { IfOk result IsValidVSeries }

@@ -80,7 +80,7 @@ fn with_group_word(
     }
 }
 
-// With one item more.
+// The parts with an item put after those they have.
 fn put_item(parts: VRuleParts, item: Item) -> Result<VRuleParts, NoMemory>
     ensures { IfOk result (λ more. more ≡ put_item parts item) }
 {
