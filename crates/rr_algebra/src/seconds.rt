@@ -23,7 +23,7 @@ fn is_next(seconds: &[u32], second: u64) -> bool
     }
 }
 
-// Adds a second, where it is one of a day and above these.
+// Adds a second, if it is one of a day and above these.
 fn push_second(seconds: &mut Vec<u32>, second: u64) -> Result<(), Fault>
     requires { IsSecondsOfDay seconds.old.items }
     ensures added { OnOk result (seconds.new.items ≡ seconds.old.items ++ second ∷ []) }

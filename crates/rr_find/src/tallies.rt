@@ -22,7 +22,7 @@ pub(crate) struct Counts {
 
 /// Counts the days of a window by their sorts for a series of this kind and interval that starts on its first day.
 ///
-/// None where no list of items has the days of the window, as two days tell: an occupied day that no item has, or an
+/// None if no list of items has the days of the window, as two days tell: an occupied day that no item has, or an
 /// occupied and a free day of one sort. The days after these are not read. It takes no memory.
 pub(crate) fn tally<A: DaySeq>(
     seq: &A,
@@ -85,7 +85,7 @@ fn counts_all_days<A: DaySeq>(
     true
 }
 
-// Counts a day to its sort; false where it is occupied and has no sort, or where its sort has days of both.
+// Counts a day to its sort; false if it is occupied and has no sort, or if its sort has days of both.
 fn counts_day<A: DaySeq>(
     seq: &A,
     kind: FamilyKind,

@@ -58,7 +58,7 @@ pub(crate) enum Pick {
     Number(u8),
     /// The first to fourth, or with -1 the last, of these weekdays.
     Indexed {
-        /// Which of them.
+        /// Which of them: 1 to 4 from the front, or -1 for the last.
         index: i8,
         /// The weekdays: the sum of 1 for Sunday, 2 for Monday, up to 64 for Saturday.
         weekdays: u8,

@@ -27,7 +27,7 @@ pub enum EndedLazy {
 }
 
 impl EndedLazy {
-    /// The members of a rule from its start on, in years 1 to 9999. Where the rule has an UNTIL, it lies in these years,
+    /// The members of a rule from its start on, in years 1 to 9999. If the rule has an UNTIL, it lies in these years,
     /// is of the start's kind and not before it.
     pub fn new(alloc: Global, rule: &Rule, kind: Kind, start: i64) -> Result<EndedLazy, NoMemory>
         requires valid { IsValidRule kind rule.now }

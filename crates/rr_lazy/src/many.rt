@@ -230,7 +230,7 @@ fn lesser(day: i64, ahead: Option<OccupiedDay>) -> i64
     }
 }
 
-// The seconds that parts gave for a day; none where no part gave it.
+// The seconds that parts gave for a day; none if no part gave it.
 fn all_on<A: Lazy + Drop>(
     alloc: Global,
     sets: &mut SetTable,
