@@ -26,12 +26,12 @@ pub enum Further {
     Until {
         /// How many come after the first, from 1 to `MOST_FURTHER`.
         count: usize,
-        /// The last of them.
+        /// The last of them, which comes after all others.
         last: Difference,
     },
     /// They end, but more than `MOST_FURTHER` come after the first.
     Many,
-    /// They never end.
+    /// They never end: the sets differ in what they repeat.
     ForEver,
 }
 

@@ -6,6 +6,6 @@ use rr_model::Question;
 pub enum Asked {
     /// Of the two in their order.
     Forth(Question),
-    /// Of the two exchanged.
+    /// Of the two with the later one first.
     Back(Question),
 }

@@ -21,7 +21,7 @@ fn verdict_on(asked: Asked, a: &DrawnDays, b: &DrawnDays) -> Verdict
     }
 }
 
-// One where the verdict on two series is yes, else none.
+// One if the verdict on two series is yes, and otherwise none.
 fn one_where_yes(asked: Asked, a: &DrawnDays, b: &DrawnDays) -> u32
     ensures count { IsOneWhere (IsYes asked (stands a.now) (stands b.now)) result }
     ensures few { result ≤ 1 }

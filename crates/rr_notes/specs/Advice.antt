@@ -17,7 +17,7 @@ advice side name =
     else if bytes_eq name (codes "CycleTooLong") && bytes_eq side (codes "both") then Some (codes "the two repeat together too late: 'rr equal A B' compares them for ever")
     else None
 
--- what stands before the first cut of a text, all where there is none
+-- what stands before the first cut of a text, all if there is none
 abbrev pub before_cut : List ℕ → Option (List ℕ × List ℕ) → List ℕ
 before_cut text None = text
 before_cut text (Some (before, after)) = before

@@ -48,7 +48,7 @@ fn is_language(text: &str) -> bool {
     matches!(text, "ics" | "graph" | "vcal")
 }
 
-// The name of a file in its word, behind its language and its own offset; none where these are wrong.
+// The name of a file in its word, behind its language and its own offset; none if these are wrong.
 fn file_name(word: &str) -> Option<&str> {
     let Some((head, rest)) = word.split_once(':') else {
         return Some(word);

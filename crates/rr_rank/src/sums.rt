@@ -52,7 +52,7 @@ impl<L: Ledger> Sums<L> {
         self.entries.len() as u64
     }
 
-    /// Puts an entry at the end; nothing changes where there is no memory for it.
+    /// Puts an entry at the end; nothing changes if there is no memory for it.
     pub fn put(&mut self, entry: Entry) -> Result<(), NoMemory>
         ensures ok { OnOk result (self.new ≡ self.old ++ entry ∷ []) }
         ensures err { OnErr result (self.new ≡ self.old) }

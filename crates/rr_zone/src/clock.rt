@@ -27,10 +27,10 @@ pub(crate) enum LocalTime {
     Skipping(i64),
 }
 
-/// An onset of an observance.
+/// A moment at which local time begins to be another one: the onset of an observance (RFC 5545, section 3.6.5).
 #[derive(Clone, Copy)]
 pub struct Onset {
-    /// The moment of UTC.
+    /// The moment of UTC, in seconds since 1970-01-01T00:00:00.
     pub at: i64,
     /// Local time less UTC before it, in seconds.
     pub from: i32,
@@ -75,10 +75,10 @@ impl Model for Clock {
 // 10000-01-01, the last day that is ever listed: no moment of the years 1 to 9999 is later in local time.
 const LAST_DAY: i64 = 2_932_897;
 
-// Ten years.
+// Ten years with three leap days among them, in days.
 const SOME_YEARS: i64 = 3_653;
 
-// A day.
+// A day, in seconds.
 const DAY_SECONDS: i32 = 86_400;
 
 // How many of some onsets are not after a moment.
@@ -334,7 +334,7 @@ impl Clock {
         })
     }
 
-    // The first onset.
+    // The first onset of the zone, if it has one.
     fn first(&self) -> Option<Onset>
         ensures { result ≡ first_of_zone None self.now }
     {
