@@ -11,7 +11,7 @@ use std::alloc::Global;
 pub struct Entry {
     /// What it is found again by.
     pub key: Key,
-    /// The calendar.
+    /// Whether it is of calendar A or of calendar B.
     pub side: Side,
     /// Its index in its calendar.
     pub index: usize,
@@ -65,7 +65,7 @@ pub fn count_of_a(entries: &[Entry]) -> usize
         .count()
 }
 
-/// The indexes of entries.
+/// The index of each entry in its calendar, in the order of the entries.
 pub fn entry_indexes(alloc: Global, entries: &[Entry]) -> Result<Vec<usize>, NoMemory>
     ensures { IfOk result (λ indexes. indexes.items ≡ indexes_in entries.now) }
 {

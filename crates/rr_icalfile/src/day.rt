@@ -95,7 +95,7 @@ fn put_values(
     Ok(())
 }
 
-// The same line, in memory of its own.
+// A copy of a line, in memory of its own.
 fn copy_line(alloc: Global, line: &UsedLine) -> Result<UsedLine, NoMemory>
     ensures { IfOk result (λ made. made ≡ line.now) }
 {

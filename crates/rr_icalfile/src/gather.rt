@@ -63,7 +63,7 @@ fn judge_instance(event: &Event) -> Result<(), KeyRefusal>
     Ok(())
 }
 
-// With one event more.
+// The events of a key with a further one: another instance, or the series, of which a second one is refused.
 fn with_event(gathered: Gathered, event: Event) -> Result<Gathered, KeyFault>
     ensures { AnswersKey (with_event gathered event) result }
 {

@@ -42,7 +42,7 @@ impl DateSet {
         Ok(self.dates.insert(at)?)
     }
 
-    /// Puts several dates.
+    /// Puts each of several dates that is not there yet.
     pub fn put_all(&mut self, values: &[i64]) -> Result<(), NoMemory>
         ensures { OnOk result (self.new ≡ with_values self.old values.now) }
     {
@@ -52,7 +52,7 @@ impl DateSet {
         Ok(())
     }
 
-    /// The dates, rising.
+    /// All dates of the set, rising.
     pub fn dates(&self, alloc: Global) -> Result<Dates, NoMemory>
         ensures { IfOk result (λ dates. dates ≡ self.now) }
     {

@@ -74,7 +74,7 @@ impl Model for Shifted {
     ghost view = { λ s. record { moments = s.moments; starts = s.starts } };
 }
 
-// The same moments, rising.
+// The moments that are taken out and those of starts, each as a rising list.
 fn rising_shifts(alloc: Global, shifts: &ShiftSets) -> Result<Shifted, NoMemory>
     ensures { IfOk result (λ shifted. shifted ≡ shifts.now) }
 {
@@ -153,7 +153,7 @@ fn series_of_starts(alloc: Global, kind: Kind, starts: &Dates) -> Result<Series,
     }
 }
 
-// The series with the starts as dates that are added, and the moments taken out where nothing starts.
+// The series with the starts as dates that are added, and the moments taken out if nothing starts.
 fn with_shifts(alloc: Global, series: Series, shifted: &Shifted) -> Result<Series, NoMemory>
     ensures { IfOk result (λ made. made ≡ with_shifts series shifted.now) }
 {
@@ -191,7 +191,7 @@ fn edited_series(
     Err(KeyFault::Refused(KeyRefusal::ExcludedRule(place)))
 }
 
-// The starts alone.
+// The series of the starts of instances alone, if it has no more dates than a series may have.
 fn starts_alone(
     alloc: Global,
     place: u64,

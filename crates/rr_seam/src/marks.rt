@@ -26,7 +26,7 @@ impl Marks {
         }
     }
 
-    /// Those of either.
+    /// The marks that either of both has.
     pub fn or(self, other: Marks) -> Marks
         ensures { result ≡ marks_of_both self other }
     {

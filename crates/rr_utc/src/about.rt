@@ -16,7 +16,7 @@ pub struct Calm {
     pub end: i64,
     /// Local time less UTC in the first zone, in seconds.
     pub ahead_a: i32,
-    /// The same in the second zone.
+    /// Local time less UTC in the second zone, in seconds.
     pub ahead_b: i32,
 }
 
@@ -37,11 +37,11 @@ impl Calm {
 /// The numbers of a series' sets on the local days before, on and after a day of UTC; none for a free day.
 #[derive(Clone, Copy, PartialEq, Eq)]
 pub struct Numbers {
-    /// On the day before.
+    /// The number of the local day before it.
     pub before: Option<u32>,
-    /// On the day itself.
+    /// The number of the local day of the same date.
     pub on: Option<u32>,
-    /// On the day after.
+    /// The number of the local day after it.
     pub after: Option<u32>,
 }
 
@@ -50,11 +50,11 @@ pub struct Numbers {
 pub struct About {
     /// The numbers of the first series.
     pub a: Numbers,
-    /// Those of the second.
+    /// The numbers of the second series.
     pub b: Numbers,
     /// Local time less UTC in the first zone, in seconds.
     pub ahead_a: i32,
-    /// The same in the second zone.
+    /// Local time less UTC in the second zone, in seconds.
     pub ahead_b: i32,
 }
 

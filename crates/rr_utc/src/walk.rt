@@ -105,7 +105,8 @@ fn day_later(day: i64, days: u64, end: i64) -> i64
     day + days.min((end - day) as u64) as i64
 }
 
-// What the days of UTC from one on and before another show: all that have only free local days beside them, or else the first.
+// What the days of UTC from one on and before another show: all that have only free local days beside them, or the
+// first if that one has another.
 fn look_from<A: DaySeq, B: DaySeq>(
     alloc: Global,
     a: &A,
