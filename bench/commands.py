@@ -392,7 +392,7 @@ def defined_pages(table):
 
 def calendars_release(table):
     release = (TOP / VERSION).read_text().strip()
-    return constant("VERSION", f"rr-calendars {release}\n") + f'/// The release alone.\npub const RELEASE: &str = "{release}";\n'
+    return constant("VERSION", f"rr-calendars {release}\n") + f'/// The number of the release, as `--version` prints it behind the name.\npub const RELEASE: &str = "{release}";\n'
 
 
 PLACES = {

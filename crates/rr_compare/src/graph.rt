@@ -15,7 +15,7 @@ use std::alloc::Global;
 /// which has no zone.
 #[derive(Drop)]
 pub struct GraphCalendar {
-    /// The list.
+    /// The list with its events.
     pub file: GraphFile,
     /// Whether an offset is stated.
     pub is_turned: bool,

@@ -9,11 +9,11 @@ use rr_text::offset_of;
 /// The language of a calendar file.
 #[derive(Clone, Copy, Debug, PartialEq, Eq)]
 pub enum Language {
-    /// iCalendar (RFC 5545).
+    /// iCalendar, a text of RFC 5545; its word is `ics`.
     Ics,
-    /// A list of events of Microsoft Graph.
+    /// A list of events of Microsoft Graph, in JSON; its word is `graph`.
     Graph,
-    /// vCalendar 1.0.
+    /// vCalendar 1.0; its word is `vcal`.
     Vcal,
 }
 

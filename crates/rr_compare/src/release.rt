@@ -4,6 +4,6 @@
 pub const VERSION: &[u8] = b"rr-calendars 0.20.0
 ";
 
-/// The release alone.
+/// The number of the release, as `--version` prints it behind the name.
 pub const RELEASE: &str = "0.20.0";
 // commands.txt: END

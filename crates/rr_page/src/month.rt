@@ -43,7 +43,7 @@ fn cell_piece(sign: u8) -> MonthPiece
     }
 }
 
-// Its end.
+// The end of the cell of a day, by its sign.
 fn sign_piece(sign: u8) -> MonthPiece
     ensures { result ≡ sign_piece sign }
 {

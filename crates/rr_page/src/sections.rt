@@ -165,7 +165,7 @@ fn put_item(alloc: Global, page: &mut Markup, line: &ReportLine) -> Result<(), N
     page.piece(Piece::Section(SectionPiece::ItemEnd))
 }
 
-// The same if it is of a class.
+// Puts a line as an item of a list, if it is of a class.
 fn put_item_if(
     alloc: Global,
     page: &mut Markup,

@@ -40,7 +40,7 @@ pub struct Difference {
 pub struct Detail {
     /// What A states, if it has such events and they state a series.
     pub series_a: Option<Series>,
-    /// What B states.
+    /// What B states, if it has such events and they state a series.
     pub series_b: Option<Series>,
     /// Where their local times differ, if both are compared and they do.
     pub difference: Option<Difference>,

@@ -307,7 +307,7 @@ fn push_months<A: DaySeq, B: DaySeq>(
 
 // ---- times
 
-// The times of a day, those of A where it has some.
+// The times of a day, those of A if it has some.
 fn times_of_day<'a, A: DaySeq, B: DaySeq>(a: &'a A, b: &'a B, day: i64) -> &'a [u32]
     requires { IsDayWithin 0 day }
     ensures { result.now ≡ times_of_day (A.sketch a.now) (B.sketch b.now) day }

@@ -137,7 +137,7 @@ pub fn push_moment(out: &mut Vec<u8>, kind: Kind, at: i64) -> Result<(), NoMemor
     push_at_time(out, kind, at)
 }
 
-// The same of the years 1 to 9999.
+// Appends a date or a moment of the years 1 to 9999: `9 January 2024 at 09:30`.
 pub(crate) fn push_moment_in_years(out: &mut Vec<u8>, kind: Kind, at: i64) -> Result<(), NoMemory>
     requires { IsInYears kind at }
     ensures { OnOk result (out.new.items ≡ out.old.items ++ moment_words kind at) }
