@@ -10,7 +10,7 @@ use rr_model::Kind;
 pub struct Length {
     /// Days of the calendar; those of weeks too.
     pub days: u64,
-    /// Seconds.
+    /// Exact seconds; those of hours and minutes too.
     pub seconds: u64,
 }
 

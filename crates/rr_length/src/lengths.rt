@@ -9,7 +9,7 @@ use std::marker::Model;
 pub struct Dated {
     /// Where it starts: days since 1970-01-01 of a date, seconds since its midnight of a moment.
     pub at: i64,
-    /// Its length.
+    /// How long the occurrence lasts.
     pub length: Length,
 }
 

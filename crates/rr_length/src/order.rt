@@ -6,7 +6,7 @@ use crate::lengths::Dated;
 use rr_model::NoMemory;
 use std::alloc::Global;
 
-// A copy in order.
+// A copy of dated lengths, ordered by their starts.
 fn in_order(alloc: Global, dated: &[Dated]) -> Result<Vec<Dated>, NoMemory>
     ensures ordered { IfOk result (λ ds. HasOrderedDates ds.items) }
     ensures same { IfOk result (λ ds. HaveOneLongest ds.items dated.now) }

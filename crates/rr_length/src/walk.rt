@@ -15,9 +15,9 @@ use rr_word::DaySeq;
 /// A length of A, and one of B.
 #[derive(Clone, Copy)]
 pub struct Both {
-    /// That of A.
+    /// How long an occurrence lasts by A.
     pub a: Length,
-    /// That of B.
+    /// How long an occurrence lasts by B.
     pub b: Length,
 }
 
