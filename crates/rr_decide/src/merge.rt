@@ -7,7 +7,7 @@ use crate::question::is_shown_by;
 use rr_model::{Question, Side};
 use rr_word::next_second;
 
-/// Whether two lists are equal.
+/// Whether two lists have the same numbers in the same order.
 pub fn are_equal(xs: &[u32], ys: &[u32]) -> bool
     ensures { IsTrue result ↔ (xs.now ≡ ys.now) }
 {

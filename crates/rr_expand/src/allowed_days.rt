@@ -49,7 +49,7 @@ struct MaskedYear {
 }
 
 impl AllowedDays {
-    /// Of a rule beside the day of its start, in days since 1970-01-01. No mask is made yet.
+    /// The days that a rule allows beside the day of its start, in days since 1970-01-01. No mask is made yet.
     pub fn new(alloc: Global, rule: &Rule, start_day: i64) -> Result<Self, NoMemory>
         requires { IsDayWithin 1000 start_day }
         ensures { IfOk result (λ a. a ≡ filling_of rule.now start_day) }

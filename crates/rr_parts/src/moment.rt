@@ -20,7 +20,7 @@ pub struct Moment {
 }
 
 impl Moment {
-    /// The date or the moment of this number.
+    /// The date or the moment of this number, with the calendar of its day.
     pub fn new(kind: Kind, at: i64) -> Self
         requires near { IsDayWithin 1000 (day_part kind at) }
         ensures kind { result.kind ≡ kind }

@@ -97,7 +97,8 @@ fn month_of(line: u64, text: &[u8]) -> Result<u8, Refusal>
     Ok(month as u8)
 }
 
-/// One word more of the rule's list.
+/// The parts with a further word of the rule's list, or why it is refused: `BadRule` with this line if the kind has no
+/// list.
 pub(crate) fn with_list_word(
     alloc: Global,
     line: u64,
