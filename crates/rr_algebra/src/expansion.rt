@@ -16,7 +16,7 @@ use std::alloc::Global;
 /// The last day that a descriptor may state.
 pub const LAST_DAY: i64 = 40_000_000;
 
-/// Whether a descriptor may state a day.
+/// Whether a descriptor may state a day, in days since 1970-01-01: one from the year 1 on and up to `LAST_DAY`.
 pub fn is_read_day(day: i64) -> bool
     ensures { IsTrue result ↔ IsReadDay day }
 {

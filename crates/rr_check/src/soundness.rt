@@ -26,7 +26,7 @@ impl Model for Checked {
 }
 
 impl Checked {
-    /// The series as it was given.
+    /// The series, as it was given to `check`.
     pub fn series(&self) -> &Series
         ensures value { result.now ≡ self.now }
         ensures sound { IsSound result.now }

@@ -71,7 +71,7 @@ pub fn window_of<A: DaySeq>(seq: &A) -> Option<Window>
     })
 }
 
-/// Whether a day has an occurrence.
+/// Whether a sequence has an occurrence on a day, in days since 1970-01-01.
 pub fn is_occupied<A: DaySeq>(seq: &A, day: i64) -> bool
     requires near { IsDayWithin 0 day }
     ensures { result ≡ is_occupied (A.sketch seq.now) day }

@@ -14,9 +14,9 @@ use rr_word::DaySeq;
 /// How many days of each sort a window has; a kind that tells fewer sorts apart uses the first few.
 #[derive(Drop)]
 pub(crate) struct Counts {
-    /// Of each sort how many days are occupied.
+    /// How many days of each sort are occupied.
     pub occupied: [u64; 366],
-    /// Of each sort how many days are not.
+    /// How many days of each sort are not.
     pub free: [u64; 366],
 }
 

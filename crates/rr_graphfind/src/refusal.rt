@@ -43,10 +43,12 @@ impl FirstDays {
     }
 }
 
-/// None if the pattern has the set; otherwise a group of patterns with it, none of which has the set.
+/// Which patterns are known not to have the set by the same look as this one: a group with it, or `None` if it has the
+/// set.
 ///
-/// No earlier pattern has the set. What costs least and tells most is asked first: the divisors of the set's units, the cycle,
-/// the month of the first day, and then the days.
+///
+/// No earlier pattern has the set. What costs least and tells most is asked first: the divisors of the set's units, the
+/// cycle, the month of the first day, and then the days.
 pub(crate) fn refusal<A: DaySeq>(
     seq: &A,
     window: &Window,

@@ -130,7 +130,7 @@ pub(crate) struct SecondDays {
     pub target: Target,
     /// Whether its occurrences are dates or moments.
     pub kind: Kind,
-    /// The second, 0 for dates.
+    /// The second of the day, 0 for dates.
     pub second: u32,
     /// Which of them the set has.
     pub row: Row,
@@ -149,7 +149,7 @@ pub(crate) struct SecondDays {
 }
 
 impl SecondDays {
-    /// Those of a second; None if they repeat after too many days.
+    /// The days on which a set has this second; `None` if they repeat only after too many days.
     pub(crate) fn of<A: DaySeq>(
         alloc: Global,
         seq: &A,

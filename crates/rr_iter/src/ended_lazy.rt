@@ -16,13 +16,13 @@ use std::alloc::Global;
 /// The members of a rule: its chosen moments from its start on, up to its end.
 #[derive(Drop)]
 pub enum EndedLazy {
-    /// Of a rule without end.
+    /// The members of a rule without end.
     Never(RuleLazy),
-    /// Of a rule with UNTIL.
+    /// The members of a rule with UNTIL alone.
     Until(UptoRule),
-    /// Of a rule with COUNT.
+    /// The members of a rule with COUNT alone.
     Count(FirstN<RuleLazy>),
-    /// Of a rule with both.
+    /// The members of a rule with both, up to the earlier end.
     Both(FirstN<UptoRule>),
 }
 

@@ -43,8 +43,8 @@ pub(crate) fn day_of_nth(
     nth_of(alloc, chosen, number, to)
 }
 
-/// Where the occurrence of a number, from 1, in a set that has not been asked lies up to a day, in days since 1970-01-01. Each
-/// day's moments are counted at once.
+/// On which day the occurrence of a number, from 1, lies, looked for up to a day, in days since 1970-01-01. The set
+/// must not have been asked before. Each day's moments are counted at once.
 pub fn nth_of<A: Lazy + Drop>(
     alloc: Global,
     mut lazy: A,

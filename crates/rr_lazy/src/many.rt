@@ -35,7 +35,7 @@ impl<A: Lazy + Drop> Many<A> {
     ghost use Rattle.rr_model.specs.Sets.Tree.{many, nothing};
     ghost use Rattle.rr_lazy.specs.Many.{tree_with_part};
 
-    /// No part; it takes no memory.
+    /// An iterator over no parts, which has no day until one is put; it takes no memory.
     pub fn new(alloc: Global) -> Many<A>
         ensures tree { ⟦<Many<A> as Lazy>⟧.tree result ≡ many nothing }
         ensures unasked { IsUnasked (⟦<Many<A> as Lazy>⟧.position result) }

@@ -16,9 +16,9 @@ use std::alloc::Global;
 /// The chosen moments of a rule from its start on.
 #[derive(Drop)]
 pub enum RuleLazy {
-    /// Of a rule in days, weeks, months or years.
+    /// Those of a rule in days, weeks, months or years.
     WholeDays(Chosen<DayRule>),
-    /// Of a rule in hours, minutes or seconds.
+    /// Those of a rule in hours, minutes or seconds.
     FineUnits(Chosen<FineRule>),
 }
 
