@@ -79,7 +79,8 @@ fn first_of<S: DaySeq>(seq: &S, side: Side) -> Option<Difference>
     }
 }
 
-/// The first differences of two sequences of two kinds.
+/// The first `count` differences of two sequences of two kinds, in their order, or all if there are fewer. All lie up
+/// to the greatest day, 3,000,000,000,000.
 pub fn differences_apart<A: DaySeq, B: DaySeq>(
     alloc: Global,
     a: &A,

@@ -68,7 +68,7 @@ fn pairs_of(series: u32) -> u32
     series * (series - 1) / 2
 }
 
-/// The summary of 1 to 100 series.
+/// The summary of 1 to 100 series: the verdicts on all pairs of them, counted.
 pub fn summary_of(list: &[DrawnDays]) -> Summary
     requires some { 1 ≤ length list.now }
     requires few { length list.now ≤ 100 }

@@ -26,7 +26,7 @@ pub fn own_lines<'a>(alloc: Global, lines: &'a [Line]) -> Result<Vec<&'a Line>, 
     Ok(own)
 }
 
-/// The first line of this name.
+/// The first line of this name, in whatever case it is written; `None` if no line has it.
 pub fn first_named<'a>(word: &[u8], lines: &[&'a Line]) -> Option<&'a Line>
     ensures { option_map (λ line. line.now) result
         ≡ first_named word.now (map (λ line. line.now) lines.now) }

@@ -18,11 +18,11 @@ use std::alloc::{AllocError, Global};
 /// What a start that is a moment states of its zone.
 #[derive(Drop)]
 pub(crate) enum StartZone {
-    /// That it is in UTC.
+    /// It states that it is in UTC.
     Utc,
-    /// The name of its zone.
+    /// It states the name of its zone.
     Named(Bytes),
-    /// Neither: local time of each observer.
+    /// It states neither: local time of each observer.
     Floating,
 }
 

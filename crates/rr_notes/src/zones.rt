@@ -27,7 +27,7 @@ fn text_on_zone(
     }
 }
 
-/// Why a zone of a file turns nothing.
+/// Why a zone of a file turns no moment, as a sentence for standard error with the names of both.
 pub fn note_on_zone(alloc: Global, file: &str, zone: &UnreadZone) -> Result<String, AllocError>
     ensures { IsVisibleNote result }
 {

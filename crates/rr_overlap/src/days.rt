@@ -16,7 +16,7 @@ use rr_word::{DaySeq, PairMemo, next_second, seconds};
 pub enum DayEnd {
     /// The first second in which occurrences of both run.
     Meets(Meeting),
-    /// None, and what began last.
+    /// In no second of it both run, and this is what has begun last.
     Clear(LastBegun),
 }
 

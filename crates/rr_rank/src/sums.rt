@@ -35,7 +35,7 @@ impl<L: Ledger> Model for Sums<L> {
 impl<L: Ledger> Sums<L> {
     ghost use Rattle.rr_rank.specs.declared.sums.Entry.{Entry};
 
-    /// No entries; it takes no memory.
+    /// A list without entries; it takes no memory.
     pub fn new(alloc: Global) -> Self
         ensures { result ≡ [] }
     {

@@ -144,7 +144,7 @@ fn last_of_all(tables: &[Table], at: i64) -> Option<Onset>
     last
 }
 
-/// The first onset of all observances.
+/// The first onset of all observances that are listed; `None` if there is none.
 pub fn first_of_all(tables: &[Table]) -> Option<Onset>
     ensures { result ≡ first_of None tables.now }
 {
