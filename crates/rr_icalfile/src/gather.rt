@@ -24,14 +24,14 @@ impl Model for Gathered {
 }
 
 impl Gathered {
-    /// The event without a RECURRENCE-ID.
+    /// The event without a RECURRENCE-ID, if there is one: the series.
     pub fn series(&self) -> Option<&Event>
         ensures { option_map (λ event. event.now) result ≡ self.now.series }
     {
         self.series.as_ref()
     }
 
-    /// The events with a RECURRENCE-ID, in their order.
+    /// The events with a RECURRENCE-ID, in the order of the file.
     pub fn instances(&self) -> &[Event]
         ensures { result.now ≡ self.now.instances }
     {

@@ -27,7 +27,7 @@ impl Model for ShiftSets {
 }
 
 impl ShiftSets {
-    /// No instance is read yet; it takes no memory.
+    /// What instances take out and put in before one is read: nothing; it takes no memory.
     pub fn new(alloc: Global) -> ShiftSets
         ensures { result ≡ no_shifts }
     {
@@ -37,7 +37,7 @@ impl ShiftSets {
         }
     }
 
-    /// The moment of an instance is taken out. `TwoInstances` comes, with this place, if an instance took it out before.
+    /// Takes out the moment of an instance. `TwoInstances` comes, with this place, if an instance took it out before.
     pub fn take_out(self, place: u64, at: i64) -> Result<ShiftSets, KeyFault>
         ensures { AnswersKey (with_moment place self at) result }
     {
@@ -49,7 +49,7 @@ impl ShiftSets {
         }
     }
 
-    /// The start of an instance is put in.
+    /// Puts in the start of an instance, in days or seconds since 1970-01-01.
     pub fn put_in(self, at: i64) -> Result<ShiftSets, NoMemory>
         ensures { IfOk result (λ shifts. shifts ≡ with_start_at self at) }
     {

@@ -55,7 +55,7 @@ impl From<NoMemory> for FileFault {
 /// What the events of a key state in one calendar.
 #[derive(Drop)]
 pub struct KeySeries {
-    /// Their series, with its instances as dates.
+    /// The series of the events, with its instances as dates.
     pub series: Series,
     /// The names of their zones, empty if local time has none.
     pub zones: Vec<Bytes>,

@@ -15,7 +15,7 @@ pub struct Marks {
 }
 
 impl Marks {
-    /// Of what is read as it stands.
+    /// The marks of what is read as it stands: none.
     pub fn none() -> Marks
         ensures { result ≡ no_marks }
     {

@@ -42,7 +42,7 @@ impl EventWords {
         EventWords { lines }
     }
 
-    /// The lines, in the order of the file.
+    /// The lines, unfolded, in the order of the file.
     pub fn lines(&self) -> &[Bytes]
         ensures { result.now ≡ self.now }
     {
@@ -66,7 +66,7 @@ impl Model for KeyWords {
 }
 
 impl KeyWords {
-    /// The lines of these events in a language.
+    /// The words of a key whose events have these words, in this language.
     pub fn of(language: Language, events: Vec<EventWords>) -> KeyWords
         ensures { result ≡ record { language = language; events = events.items } }
     {

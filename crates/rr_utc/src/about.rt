@@ -21,7 +21,7 @@ pub struct Calm {
 }
 
 impl Calm {
-    /// A stretch of no moments.
+    /// A stretch that holds no moment.
     pub fn none() -> Calm
         ensures { (f g : ℤ → ℤ) → IsCalm f g result }
     {

@@ -34,7 +34,7 @@ impl Seen {
         }
     }
 
-    /// Remembers this, instead of the last of its slot.
+    /// Remembers this, instead of what its slot remembered before.
     pub fn put(&mut self, about: About)
         ensures { (other : About) → IsSeen self.new other → IsSeen self.old other ⊎ (other ≡ about) }
     {
