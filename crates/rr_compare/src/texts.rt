@@ -70,11 +70,11 @@ fn zone_text(language: Language, bytes: &[u8]) -> &[u8]
 /// The zones that the files define.
 #[derive(Drop)]
 pub(crate) struct Zones<'a> {
-    /// Those of the file A.
+    /// The zones that the file A defines.
     pub(crate) old: Definitions<'a>,
-    /// Those of the file B.
+    /// The zones that the file B defines.
     pub(crate) new: Definitions<'a>,
-    /// Those of the file that `--zones` names.
+    /// The zones that the file of `--zones` defines.
     pub(crate) more: Definitions<'a>,
 }
 

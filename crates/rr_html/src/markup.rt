@@ -27,7 +27,7 @@ impl Model for Markup {
 }
 
 impl Markup {
-    /// The empty text; it takes no memory.
+    /// Markup without a piece; it takes no memory.
     pub fn new(alloc: Global) -> Self
         ensures { result ≡ [] }
     {

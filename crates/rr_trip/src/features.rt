@@ -31,7 +31,7 @@ pub enum FirstTimes {
     Unread,
     /// Of dates, or of moments whose zone is not known: days since 1970-01-01, or seconds since then in local time.
     Local {
-        /// Of which kind they are.
+        /// Whether they are dates or moments.
         kind: Kind,
         /// The first occurrences themselves, rising.
         local: Vec<i64>,

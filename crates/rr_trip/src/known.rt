@@ -93,7 +93,7 @@ fn put_index(
 }
 
 impl KnownNames {
-    /// None were looked up yet.
+    /// A store in which no name of the calendar has been looked up yet.
     pub fn new(alloc: Global) -> KnownNames
         ensures { result.zones.items ≡ [] }
     {

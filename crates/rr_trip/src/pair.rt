@@ -76,7 +76,7 @@ impl KeyPair {
         days_beside(&self.a.days, &self.b)
     }
 
-    /// The names of the zones of B.
+    /// The names of the zones in which B states the events.
     pub fn zones_b(&self) -> &[Bytes]
         ensures { result.now ≡ zones_beside self.now.b }
     {

@@ -414,7 +414,7 @@ pub fn push_file_refusal(out: &mut Vec<u8>, refusal: FileRefusal) -> Result<(), 
     }
 }
 
-/// The line that refuses a whole file.
+/// The line of a report that refuses a whole file, with its line end.
 pub fn print_refusal(alloc: Global, side: Side, refusal: FileRefusal) -> Result<Vec<u8>, NoMemory>
     ensures { IfOk result (λ text. text.items ≡ file_refusal_line side refusal) }
 {

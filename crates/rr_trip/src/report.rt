@@ -50,9 +50,9 @@ pub struct Counts {
     pub equal: usize,
     /// Those with an occurrence that one calendar alone has or that is of two lengths, or with a zone in one alone.
     pub differs: usize,
-    /// Those that A alone has.
+    /// Those of which A alone has events, not all of them cancelled.
     pub only_a: usize,
-    /// Those that B alone has.
+    /// Those of which B alone has events, not all of them cancelled.
     pub only_b: usize,
     /// Those whose events one of the calendars refuses.
     pub refused: usize,
@@ -233,7 +233,8 @@ impl Report {
 }
 
 impl Counts {
-    /// How a comparison with these counts ends.
+    /// How a comparison with these counts ends: `Differs` comes first, then `Refused`, also for an equal key of which
+    /// nobody can tell the moments.
     pub fn status(self) -> Status
         ensures { result ≡ status_of self }
     {

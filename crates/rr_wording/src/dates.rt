@@ -11,7 +11,7 @@ use rr_cal::date_of;
 use rr_model::{Kind, NoMemory, day_part, second_part};
 use rr_text::push_unsigned;
 
-/// The name of a month, from 1 for January.
+/// The English name of a month, from 1 for January to 12 for December.
 #[tactic(auto, unfolding(crate::specs::Dates::month_name))]
 pub fn month_name(month: u64) -> &'static [u8]
     ensures { result.now ≡ month_name month }
