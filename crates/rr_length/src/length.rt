@@ -45,7 +45,7 @@ impl Length {
         self.days > other.days || self.days == other.days && self.seconds > other.seconds
     }
 
-    /// The longer of two lengths.
+    /// The longer of two lengths; of two that are alike `self`.
     pub fn longer_of(self, other: Length) -> Length
         ensures { result ≡ longer_of self other }
     {

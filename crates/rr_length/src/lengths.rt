@@ -40,7 +40,7 @@ impl Model for KeyLengths {
 }
 
 impl KeyLengths {
-    /// The usual length, and dated ones in any order.
+    /// The lengths of a key: the usual one, and dated ones in any order.
     pub fn of(usual: Length, dated: Vec<Dated>) -> KeyLengths
         ensures { result ≡ record { usual = usual; dated = dated.items } }
     {
