@@ -25,7 +25,6 @@ use std::sync::ledger::Ledger;
 /// Whether two sets have equal occurrences for all years to come, whatever their common cycle is; otherwise the first
 /// occurrence that exactly one of them has.
 ///
-///
 /// Its contract says in how many steps it reads: at most as many as both sequences together have days from the lesser
 /// first occupied day to both periods past the later settled day, and two more; at most two if one is empty. A step
 /// tells one day, or a stretch of days none of which is occupied. So both sequences are counted ones, and those of

@@ -63,7 +63,8 @@ impl AllowedDays {
         })
     }
 
-    /// The first allowed day from one on and before another. It takes no memory.
+    /// The first allowed day from one on and before another, in days since 1970-01-01; `None` if there is none. It
+    /// takes no memory.
     pub fn first_from(&mut self, from: i64, end: i64) -> Option<i64>
         requires from { IsDayWithin 0 from }
         requires end { IsDayWithin 0 end }

@@ -18,8 +18,8 @@ pub struct YearMask {
 }
 
 impl YearMask {
-    /// The first day from one on and before another, counted in the year from 0, whose bit is 1. Words of which no bit is
-    /// set are passed over at once.
+    /// The first day from one on and before another, counted in the year from 0, whose bit is 1; `None` if there is
+    /// none. Words of which no bit is set are passed over at once.
     pub fn first_from(&self, from: u16, end: u16) -> Option<u16>
         requires { end ≤ 384 }
         ensures { IsFirstBit self.now.bits from end result }

@@ -71,7 +71,8 @@ fn series_of(alloc: Global, event: ReadEvent<Rule>) -> Result<Series, NoMemory>
     })
 }
 
-/// The series that the used lines of one event state; see `read`, which refuses in the same order.
+/// The series that the used lines of one event state. The offset is local time less UTC in seconds; see `read`, which
+/// refuses in the same order.
 pub fn read_scan(alloc: Global, offset: Option<i32>, scan: &Scan) -> Result<Series, Fault>
     ensures { Answers (calendar_scan offset scan.now) result }
 {

@@ -38,7 +38,8 @@ fn vseries_of(alloc: Global, event: ReadEvent<VRule>) -> Result<VSeries, NoMemor
     })
 }
 
-/// The series that the used lines of one event state; see `read`, which refuses in the same order.
+/// The series that the used lines of one event state. The offset is local time less UTC in seconds; see `read`, which
+/// refuses in the same order.
 pub fn read_scan(alloc: Global, offset: Option<i32>, scan: &Scan) -> Result<VSeries, Fault>
     ensures { Answers (vcal_scan offset scan.now) result }
 {
