@@ -80,7 +80,8 @@ fn put_run(
 }
 
 /// For each day from the first one up to the last one of these runs the number of its set and 1, or 0 if it has none.
-/// The steps of a run are taken one by one, if its last day lies before the end; otherwise none is taken.
+/// `NotCanonical` comes if a run has steps or a set that do not fit. The steps of a run are taken one by one, if its
+/// last day lies before the end; otherwise none is taken.
 pub fn numbers_of(alloc: Global, runs: &[Run], end: usize, sets: usize) -> Result<Vec<u32>, Fault>
     requires few { end ≤ 100_000_000 }
     requires sets { sets ≤ 100_000_000 }

@@ -169,7 +169,8 @@ fn endless_sequence(
     Ok(folded)
 }
 
-/// The sequence of the days that a descriptor states, if each lies in its place and within the bounds.
+/// The sequence of the days that a descriptor states. `NotCanonical` comes if a day does not lie in its place or within
+/// the bounds.
 pub fn sequence_of_parts(
     alloc: Global,
     kind: Kind,

@@ -62,8 +62,8 @@ fn rule_refusal(number: u32, kind: Kind, start: i64, rule: &Rule) -> Option<Refu
     }
 }
 
-/// The refusal of the end of a rule beside a start: of its UNTIL `UntilKind` if it is of another kind than the start, and
-/// otherwise `UntilBeforeStart` if it is earlier.
+/// The refusal of the end of a rule beside a start, which is in days or seconds since 1970-01-01: `UntilKind` if its
+/// UNTIL is of another kind than the start, otherwise `UntilBeforeStart` if it is earlier; `None` if neither is so.
 pub fn end_refusal(kind: Kind, start: i64, end: End) -> Option<Refusal>
     ensures { result ≡ end_refusal kind start end }
 {

@@ -46,7 +46,6 @@ impl FirstDays {
 /// Which patterns are known not to have the set by the same look as this one: a group with it, or `None` if it has the
 /// set.
 ///
-///
 /// No earlier pattern has the set. What costs least and tells most is asked first: the divisors of the set's units, the
 /// cycle, the month of the first day, and then the days.
 pub(crate) fn refusal<A: DaySeq>(

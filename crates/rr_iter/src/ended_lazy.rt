@@ -27,8 +27,8 @@ pub enum EndedLazy {
 }
 
 impl EndedLazy {
-    /// The members of a rule from its start on, in years 1 to 9999. If the rule has an UNTIL, it lies in these years,
-    /// is of the start's kind and not before it.
+    /// The members of a rule from its start on, in years 1 to 9999. The start is in days or seconds since 1970-01-01.
+    /// If the rule has an UNTIL, it lies in these years, is of the start's kind and not before it.
     pub fn new(alloc: Global, rule: &Rule, kind: Kind, start: i64) -> Result<EndedLazy, NoMemory>
         requires valid { IsValidRule kind rule.now }
         requires in_years { IsInYears kind start }

@@ -32,7 +32,11 @@ struct LastOfRules {
 }
 
 /// The settled day of a series, in days since 1970-01-01: the day after the last of its start, its dates, added or
-/// taken out, and the UNTIL, or if there is none the last member, of each rule that ends, excluded ones too.
+/// taken out, and the UNTIL, or if there is none the last member, of each rule that ends, excluded ones among them (RFC
+/// 5545, section 3.8.5). From it on the series repeats with its cycle.
+///
+/// `CountedTooFar` comes exactly if a rule or an excluded rule with COUNT and no UNTIL has fewer members than it counts
+/// up to `MAX_SPAN_DAYS` days after the start's day.
 pub fn ends(alloc: Global, series: &Checked) -> Result<i64, Fault>
     ensures settled { IfOk result (IsSettledDay series.now) }
     ensures near { IfOk result (λ day. (first_day_of_all <ℤ day) × (day ≤ℤ pos 19_710_113)) }
