@@ -218,7 +218,8 @@ pub fn note_on_calendar_words(alloc: Global, words: &[&str]) -> Result<String, A
     visible(alloc, text.as_bytes())
 }
 
-/// What to do about the refusal of a file that an answer begins with. The first 64 bytes of the answer are enough.
+/// What to do about the refusal of a file that an answer begins with; `None` of an answer that begins with no refusal
+/// of which more is to be said. The first 64 bytes of the answer are enough.
 pub fn note_on_calendar_refusal(answer: &[u8]) -> Option<&'static str>
     ensures { option_map (λ text. text.now) result ≡ note_on_calendar_refusal answer.now }
 {

@@ -57,7 +57,7 @@ pub fn day_of_number<'a, A: DaySeq + Drop, L: Ledger>(
     }
 }
 
-/// A day before a period past the settled day, with how many occurrences come before it.
+/// A day before a period past the settled day, in days since 1970-01-01, with how many occurrences come before it.
 pub fn day_counted<'a, A: DaySeq + Drop, L: Ledger>(
     seq: &'a Counted<A, L>,
     sums: &Sums<L>,

@@ -49,7 +49,8 @@ pub fn turned_count(n: u64, head: u64, total: u64) -> Option<TurnedCount>
     })
 }
 
-/// The day before a period past the settled day that a day repeats, and how many periods lie between them.
+/// The day before a period past the settled day that a day repeats, in days since 1970-01-01, and how many periods lie
+/// between them.
 pub fn turned_day(day: i64, settled: i64, period: u64) -> TurnedDay
     requires near { IsNearDay day }
     requires settled_near { IsNearDay settled }
@@ -67,7 +68,7 @@ pub fn turned_day(day: i64, settled: i64, period: u64) -> TurnedDay
     }
 }
 
-/// The day `turns` periods later, None if it is past `MAX_DAY`.
+/// The day `turns` periods later, in days since 1970-01-01; `None` if it is past `MAX_DAY`.
 pub fn day_later(day: i64, turns: u64, period: u64) -> Option<i64>
     requires low { earliest_near ≤ℤ day }
     requires high { day ≤ℤ pos 2_000_000_000 }
@@ -83,9 +84,8 @@ pub fn day_later(day: i64, turns: u64, period: u64) -> Option<i64>
 
 /// The second below which the occurrences of a set, on the moment's own day, are not after the moment.
 ///
-///
 /// It is 1 for a set of dates, which begin at midnight; 0 for a set of moments beside a date, which comes before them;
-/// otherwise the moment's second of the day and 1.
+/// otherwise 1 more than the moment's second of the day.
 pub fn seconds_up_to(own: Kind, kind: Kind, at: i64) -> u32
     ensures { result ≡ seconds_up_to own kind at }
 {

@@ -215,7 +215,8 @@ fn all_named<'a>(
     Ok(named)
 }
 
-/// The zone of this name among the VTIMEZONEs of a text: the one of this name, or several whose texts are the same line by line.
+/// The zone of this name among the VTIMEZONEs of a text: the one of this name, or several whose texts are the same line
+/// by line. `Undefined` comes if none has it, `Differs` if their texts do, and `Unreadable` as `ZoneFault` says.
 pub fn zone_in(
     alloc: Global,
     zones: &[Piece],
