@@ -34,7 +34,7 @@ impl DateSet {
         }
     }
 
-    /// Puts a date, and says whether it was not there before.
+    /// Puts a date, in days or seconds since 1970-01-01, and says whether it was not there before.
     pub fn put(&mut self, at: i64) -> Result<bool, NoMemory>
         ensures put { OnOk result (self.new ≡ with_value int_lt self.old at) }
         ensures added { IfOk result (λ added. list_any (λ t. int_eq t at) self.old ≡ not added) }

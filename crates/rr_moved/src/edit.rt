@@ -37,7 +37,8 @@ impl ShiftSets {
         }
     }
 
-    /// Takes out the moment of an instance. `TwoInstances` comes, with this place, if an instance took it out before.
+    /// Takes out the moment of an instance, in days or seconds since 1970-01-01. `TwoInstances` comes, with this place,
+    /// if an instance took it out before.
     pub fn take_out(self, place: u64, at: i64) -> Result<ShiftSets, KeyFault>
         ensures { AnswersKey (with_moment place self at) result }
     {

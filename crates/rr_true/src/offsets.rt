@@ -123,7 +123,8 @@ impl Offsets {
         self.span_at(moment).offset
     }
 
-    /// A moment after this one, up to which, but without it, the offset stays the same.
+    /// A moment after this one, up to which, but without it, the offset stays the same. Both are moments of UTC in
+    /// seconds since 1970-01-01T00:00:00.
     pub fn constant_until(&self, moment: i64) -> i64
         requires { IsNear moment }
         ensures later { moment <ℤ result }

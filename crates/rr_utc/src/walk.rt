@@ -144,8 +144,9 @@ fn look_from<A: DaySeq, B: DaySeq>(
     }
 }
 
-/// The first moment that one of two series alone has on the days of UTC from one on and before another, within 2,000,000,000 days
-/// of 1970-01-01 (RFC 5545, section 3.3.5). The one error is that memory runs out.
+/// The first moment that one of two series alone has on the days of UTC from one on and before another, within
+/// 2,000,000,000 days of 1970-01-01 (RFC 5545, section 3.3.5); `None` if they have the same there. The one error is
+/// that memory runs out.
 pub fn first_difference<A: DaySeq, B: DaySeq>(
     alloc: Global,
     a: &A,
