@@ -33,8 +33,8 @@ fn sign_of(one_kind: bool, a: &[u32], b: &[u32]) -> u8
     }
 }
 
-/// The sign of a day: `=` if both have it at the same times, `x` if both have it at others, `A` or `B` if one alone has
-/// it, `.` if none has.
+/// The sign of a day, which is in days since 1970-01-01: `=` if both have it at the same times, `x` if both have it at
+/// others, `A` or `B` if one alone has it, `.` if none has.
 pub fn day_sign<A: DaySeq, B: DaySeq>(a: &A, b: &B, day: i64) -> u8
     requires { IsDayWithin 0 day }
     ensures { result ≡ day_sign (A.sketch a.now) (B.sketch b.now) day }
@@ -562,7 +562,6 @@ pub fn first_painted(day: i64) -> Option<i64>
 /// behind it `=` if it has the same times in both, `x` if it has others, `A` or `B` if one alone has it, and `.` if
 /// none has; then the usual times, unless both have dates, and the days of these months with others. `day` tells the
 /// first month.
-///
 ///
 /// It is empty for a day within 1,000 of `MAX_DAY`.
 pub fn picture<A: DaySeq, B: DaySeq>(
