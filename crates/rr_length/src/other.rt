@@ -69,7 +69,6 @@ fn other_of_rising<S: DaySeq>(
 
 /// The first occurrence of a sequence that has one length by A and another one by B.
 ///
-///
 /// `None` comes if each has one length by both, and if a dated length of either stands more than 1,000,000,000,000 from
 /// 0, as no date and no moment of the years 1 to 9999 does. If both usual lengths are one, the sequence is asked at
 /// dated starts alone; otherwise for at most as many occurrences as there are dated lengths, and one. `Err` comes if
