@@ -9,7 +9,7 @@ use crate::written::event_value;
 use rr_model::{GraphEvent, Kind, NoMemory, Pattern, Range, Repeat};
 use std::alloc::Global;
 
-// One line of compact JSON.
+// The text of a value as one line of compact JSON.
 fn text_of(
     alloc: Global,
     kind: Kind,

@@ -61,7 +61,7 @@ fn with_group_place(alloc: Global, parts: VRuleParts, place: i8) -> Result<VRule
     Ok(parts)
 }
 
-// One word more in a group of places.
+// The parts with a further word in a group of places: a place, or the weekday that ends the group.
 fn with_group_word(
     alloc: Global,
     line: u64,
