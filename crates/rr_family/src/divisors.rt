@@ -106,7 +106,7 @@ impl Divisors {
         is_left_out(end, self.of_unit(freq, week_start), interval)
     }
 
-    // Those of one day alone.
+    // The divisors of a set with one day alone: all are 0.
     fn of_one_day() -> Self
         ensures { (freq : Freq) (w : ℕ) → divisor_of result freq w ≡ 0 }
     {
@@ -150,7 +150,7 @@ impl Divisors {
         ]
     }
 
-    // That of the units of a frequency.
+    // The divisor of the units of a frequency once a further occupied day is known.
     fn divisor_with_day(&self, freq: Freq, week_start: u8, start: &Day, day: &Day) -> u64
         requires whole { IsTrue (is_whole_days freq) }
         requires week { week_start < 7 }

@@ -99,7 +99,7 @@ fn month_day_sort_of(k: u16, many: u16) -> u16
     (k - 1) * 4 + (many - 28)
 }
 
-// Its weekday's rank in the month from the front and from the back, and the weekday.
+// The sort of a day by its weekday's rank in the month from the front and from the back, and by the weekday.
 fn place_sort(day: &Day) -> u16
     ensures { result
         ≡ place_sort (day_of_month day.now.number) (days_in_month_of day.now.number)

@@ -118,7 +118,7 @@ fn counts_day<A: DaySeq>(
     }
 }
 
-// One more of the sort, among the occupied days or among the free ones.
+// Counts a further day of the sort, among the occupied days or among the free ones.
 fn count_at(taken: bool, sort: u16, occupied: &mut [u64], free: &mut [u64])
     requires index { sort < length occupied.old }
     requires free_index { sort < length free.old }
@@ -134,7 +134,7 @@ fn count_at(taken: bool, sort: u16, occupied: &mut [u64], free: &mut [u64])
     }
 }
 
-// One more of the sort.
+// Counts a further day of the sort.
 fn count_one(counts: &mut [u64], sort: u16)
     requires index { sort < length counts.old }
     requires room { get_or counts.old sort 0 < 18_446_744_073_709_551_615 }

@@ -17,7 +17,7 @@ pub(crate) struct Month {
     pub weekday: u8,
 }
 
-/// The months of so many days from a day on, which is the first of a month.
+/// The months in which `days` days lie, from a day on, which is the first of a month and in days since 1970-01-01.
 pub(crate) fn months_of(alloc: Global, first: i64, days: u32) -> Result<Vec<Month>, NoMemory>
     requires low { neg_ℤ (pos 2_000_000_000) ≤ℤ first }
     requires high { first ≤ℤ pos 2_000_000_000 }

@@ -27,7 +27,7 @@ impl Plan {
         }
     }
 
-    /// Whether so many exceptions more are allowed, which are counted.
+    /// Whether `exceptions` further exceptions are allowed; then they are counted.
     pub(crate) fn allows(&mut self, exceptions: u32) -> bool {
         let exceptions = exceptions as usize;
         if self.exceptions < exceptions {

@@ -88,7 +88,7 @@ pub(crate) struct Cycle {
 }
 
 impl Cycle {
-    // That of a set with this period, if it is not too long.
+    // The cycle of a set with this period and of all patterns, if it is not too long.
     fn of(period: u32) -> Option<Cycle>
         requires { 1 ≤ period }
     {

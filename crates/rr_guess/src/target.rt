@@ -22,7 +22,7 @@ impl Target {
         }
     }
 
-    /// Whether a place among so many weekdays is tried.
+    /// Whether a place among this many weekdays is tried.
     pub(crate) fn has_places(self, many_weekdays: u8) -> bool {
         match self {
             Target::Graph => true,

@@ -9,7 +9,8 @@ use rr_setpos::rank_of;
 use rr_times::TimeSet;
 use std::alloc::Global;
 
-// Those of a day's times that the positions choose on the unit's candidate day of this rank, from 0; each day has the same times.
+// The times of a day that the positions choose on the unit's candidate day of this rank, from 0; each day has the same
+// times.
 pub(crate) fn times_at_positions(
     alloc: Global,
     times: &TimeSet,
