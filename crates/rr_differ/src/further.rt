@@ -22,7 +22,7 @@ pub const MOST_FURTHER: usize = 9_999;
 pub enum Further {
     /// No other one: there is one at most.
     NoMore,
-    /// So many come, and then no more.
+    /// `count` more come, and then none.
     Until {
         /// How many come after the first, from 1 to `MOST_FURTHER`.
         count: usize,

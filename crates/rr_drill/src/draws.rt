@@ -21,7 +21,7 @@ impl Draws {
         }
     }
 
-    // One draw, as a number below m.
+    // Draws a number below `m`.
     fn draw_below(&mut self, m: u32) -> u32
         requires { 1 ≤ m }
         ensures value { result ≡ draw_below m self.old.state }

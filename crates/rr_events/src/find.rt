@@ -58,7 +58,7 @@ impl<'a> Finder<'a> {
         Ok(())
     }
 
-    // One unfolded line more, which stands here, before the rest of the text.
+    // Takes in the next unfolded line, which stands here, before the rest of the text.
     fn step(
         &mut self,
         alloc: Global,

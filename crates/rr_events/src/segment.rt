@@ -55,7 +55,7 @@ impl<'a> Cutter<'a> {
         Ok(())
     }
 
-    // One unfolded line more, which stands here, before what stands after it.
+    // Takes in the next unfolded line, which stands here, before what stands after it.
     fn step(
         &mut self,
         alloc: Global,

@@ -60,7 +60,7 @@ note_on_calendar_refusal answer =
     then Some (codes "the file is one page of a list: join it with those that '@odata.nextLink' leads to")
     else None
 
--- what is said of so many events that are not compared for want of an offset
+-- what is said of this many events that are not compared for want of an offset
 abbrev pub note_on_utc : ℕ → Option (List ℕ)
 note_on_utc count =
     if count == 0 then None

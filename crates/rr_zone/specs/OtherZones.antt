@@ -30,7 +30,7 @@ abbrev pub line_of_zone : List (List RawLine) → List ℕ → List ℕ → Opti
 line_of_zone zones text own =
     option_and_then (λ zone. utc_line (utc_moment zone) text (after_colon false (after_name text))) (zone_at zones own)
 
--- the same by its TZID, if it has one and that is not this name
+-- the line of a zone by its own TZID, if it has one and that is not this name
 abbrev pub line_of_other : List (List RawLine) → List ℕ → List ℕ → Option (List ℕ) → Option (List ℕ)
 line_of_other zones name text None = None
 line_of_other zones name text (Some own) = if bytes_eq own name then None else line_of_zone zones text own

@@ -16,7 +16,7 @@ abbrev pub blank_lines : ℕ → List ℕ
 blank_lines zero = []
 blank_lines (suc n) = codes "\n " ++ blank_lines n
 
--- a text on one physical line and so many with a blank alone
+-- a text on one physical line, and `blanks` lines with a blank alone
 abbrev pub on_lines : List ℕ → ℕ → List ℕ
 on_lines text blanks = (text ++ blank_lines blanks) ++ codes "\n"
 

@@ -297,7 +297,7 @@ fn days_since(first: Option<Onset>, day: i64) -> i64
     day - begun
 }
 
-// This day, or the last that is ever listed.
+// The day, or the last that is ever listed if that comes first.
 fn up_to_last(day: i64) -> i64
     requires { first_day_of_year (pos 1) ≤ℤ day }
     ensures last { IsLastDay result }

@@ -136,7 +136,7 @@ fn unread_of<'a>(
     }
 }
 
-// One more, if there is one.
+// Puts a zone at the end, if there is one.
 fn put(found: &mut Vec<UnreadZone>, unread: Option<UnreadZone>) -> Result<(), NoMemory>
     ensures { OnOk result (found.new.items ≡ found.old.items ++ with_unread unread []) }
 {

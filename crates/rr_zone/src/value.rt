@@ -42,7 +42,7 @@ pub(crate) enum Written {
     At(i64),
 }
 
-// As a moment of local time that is later by so many seconds, if that is one of the years 1 to 9999.
+// A date value as a moment of local time that is `later` seconds later, if that is one of the years 1 to 9999.
 fn written_at(at: i64, later: i32) -> Written
     ensures value { result ≡ in_years (Written.At (at +ℤ later)) }
     ensures years { IsWritable result }
@@ -166,7 +166,7 @@ fn push_behind_comma(out: &mut Vec<u8>, text: &[u8], written: Written) -> Result
     push_text(out, text, written)
 }
 
-// One date value behind a comma, if it is not left out.
+// Appends a date value behind a comma, if it is not left out.
 fn push_date(
     alloc: Global,
     out: &mut Vec<u8>,
