@@ -84,7 +84,7 @@ fn settled_of_all(settled: i64, a: ZoneCycle, b: ZoneCycle) -> i64
     settled.max(day_past(a.settled)).max(day_past(b.settled))
 }
 
-// The day that comes two days and so many more after another.
+// The day that comes two days and `days` more after another.
 fn days_past(day: i64, days: u64) -> i64
     requires low { neg_ℤ (pos 1_000_000_001) ≤ℤ day }
     requires high { day ≤ℤ pos 1_000_000_001 }

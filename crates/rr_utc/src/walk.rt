@@ -92,7 +92,7 @@ enum Look {
     Same(i64),
 }
 
-// The day that comes so many days after another, or the end if that comes first.
+// The day that comes `days` days after another, or the end if that comes first.
 fn day_later(day: i64, days: u64, end: i64) -> i64
     requires low { neg_ℤ (pos 2_000_000_000) ≤ℤ day }
     requires high { end ≤ℤ pos 2_000_000_000 }
