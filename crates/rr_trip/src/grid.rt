@@ -375,7 +375,7 @@ fn printed_times(times: &[u32]) -> &[u32]
     }
 }
 
-// Puts how many of so many times are left out behind the first ones.
+// Appends how many of `count` times are left out behind the first ones.
 fn push_more(out: &mut Vec<u8>, count: usize) -> Result<(), NoMemory>
     ensures { OnOk result (out.new.items ≡ out.old.items ++ more_text count) }
 {

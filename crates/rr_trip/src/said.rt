@@ -8,7 +8,7 @@ use rr_seam::KeyRefusal;
 pub enum Ahead {
     /// The series is in UTC.
     Utc,
-    /// By so many seconds, less than a day either way.
+    /// By this many seconds, less than a day either way.
     By(i32),
 }
 
