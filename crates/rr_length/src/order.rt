@@ -17,7 +17,7 @@ fn in_order(alloc: Global, dated: &[Dated]) -> Result<Vec<Dated>, NoMemory>
     Ok(found)
 }
 
-// Of dated lengths in order the longest of each moment.
+// The longest length at each moment, of dated lengths in order.
 fn longest_of_each(alloc: Global, dated: &[Dated]) -> Result<Vec<Dated>, NoMemory>
     requires { HasOrderedDates dated.now }
     ensures rising { IfOk result (λ ds. HasRisingDates ds.items) }
