@@ -23,7 +23,7 @@ pub(crate) struct Placed<'v> {
 pub(crate) struct Gathered<'v> {
     /// The event that is the series or stands alone.
     pub(crate) series: Option<Placed<'v>>,
-    /// The number of the first instance that stands beside it as an event of its own.
+    /// The number of the first instance that stands in the list as an event of its own.
     pub(crate) instance: Option<u64>,
 }
 

@@ -37,11 +37,11 @@ impl Calm {
 /// The numbers of a series' sets on the local days before, on and after a day of UTC; none for a free day.
 #[derive(Clone, Copy, PartialEq, Eq)]
 pub struct Numbers {
-    /// The number of the local day before it.
+    /// The number of the set of the local day before it, none if that is free.
     pub before: Option<u32>,
-    /// The number of the local day of the same date.
+    /// The number of the set of the local day of the same date, none if that is free.
     pub on: Option<u32>,
-    /// The number of the local day after it.
+    /// The number of the set of the local day after it, none if that is free.
     pub after: Option<u32>,
 }
 
