@@ -6,7 +6,7 @@ use Rattle.rr_model.specs.declared.kind.Kind.TheVariants.{Moments}
 use Rattle.rr_model.specs.declared.rule.Rule.{Rule}
 use Rattle.rr_parts.specs.Numbers.{number_allowed}
 
--- the numbers below `count` that a part allows, if it is filled with the start's own number if absent and wanted
+-- the numbers below `count` that a part allows; if it is absent and wanted, it has the start's own number alone
 abbrev pub AreAllowedNumbers : Bool → List ℤ → ℕ → ℕ → List ℕ → Type 0
 AreAllowedNumbers is_wanted part own count numbers = IsSetOf nat_lt numbers (λ n. (n < count) × IsTrue (number_allowed is_wanted part own n))
 

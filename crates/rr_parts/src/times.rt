@@ -13,8 +13,11 @@ use rr_model::{Kind, Rule, second_part};
 /// A time of day, as `time_of` gives it: hours below 24, minutes and seconds below 60.
 #[derive(Clone, Copy)]
 pub struct Time {
+    /// The hour of the day, from 0.
     pub hour: u8,
+    /// The minute of the hour, from 0.
     pub minute: u8,
+    /// The second of the minute, from 0.
     pub second: u8,
 }
 

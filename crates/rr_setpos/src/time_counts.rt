@@ -70,7 +70,7 @@ pub(crate) fn before_in_minute(rule: &Rule, own: Time, second: u8) -> u32
     count_allowed(&rule.by_second, wants_second(rule.freq), own.second, second)
 }
 
-// How many numbers below `end` the part allows, if it is filled with the start's own number if absent and wanted.
+// How many numbers below `end` the part allows; if it is absent and wanted, it has the start's own number alone.
 fn count_allowed(part: &Numbers, is_wanted: bool, own: u8, end: u8) -> u32
     ensures value { result ≡ count_seconds (λ n. number_allowed is_wanted part.now own n) end }
     ensures few { result ≤ end }
