@@ -154,7 +154,7 @@ fn series_of_starts(alloc: Global, kind: Kind, starts: &Dates) -> Result<Series,
     }
 }
 
-// The series with the starts as dates that are added, and the moments taken out if nothing starts.
+// The series with the starts as dates that are added, and the moments taken out, unless something starts there.
 fn with_shifts(alloc: Global, series: Series, shifted: &Shifted) -> Result<Series, NoMemory>
     ensures { IfOk result (λ made. made ≡ with_shifts series shifted.now) }
 {

@@ -95,9 +95,9 @@ fn days_past(day: i64, days: u64) -> i64
     day + 2 + days as i64
 }
 
-// The day of UTC at which a walk may end: what agrees before it agrees for ever. Two days past the later settled day if both
-// series end; otherwise as many past the last moment at which series and zones settle, and then a common cycle of them.
-// None if there is no such cycle that is walked.
+/// The day of UTC at which a walk may end, in days since 1970-01-01: what agrees before it agrees for ever. Two days past
+/// the later settled day if both series end; otherwise as many past the last moment at which series and zones settle, and
+/// then a common cycle of them. `None` if there is no such cycle that is walked.
 pub fn end_of_walk<A: DaySeq, B: DaySeq>(
     a: &A,
     zone_a: &Offsets,
