@@ -1,6 +1,7 @@
 // What `--version` prints, of release/VERSION.
 
 // commands.txt: BEGIN (bench/commands.py writes these lines)
+/// The line that `--version` prints, with its end.
 pub const VERSION: &[u8] = b"rr-calendars 0.20.0
 ";
 
