@@ -29,8 +29,7 @@ pub fn run<S: Source, K: Sink, W: Watch>(
     ensures cause { HasCause result.status (asked_of_words words.now)
         S.failed source.old source.new K.faults sink.old sink.new }
 
-    // What `answer` says of usage and of a run that puts nothing holds over a source that does not tell what it holds
-    // too.
+    // What `answer` says of usage and of a run that puts nothing, over a source that does not tell what it holds.
     ensures usage { result.status ≡ Status.Usage → IsNone (asked_of_words words.now) }
     ensures quiet { (result.status ≡ Status.ReadFault) ⊎ (result.status ≡ Status.NoMemory)
         → K.written sink.new ≡ K.written sink.old }
