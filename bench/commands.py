@@ -239,9 +239,13 @@ def form(group, command):
 def notes(table):
     forms = "".join(f"{form(group, command)}\n" for group in table.groups for command in group.commands)
     series = [name for name, told in table.languages.items() if told["states"] == "series"]
-    sets = {"LANGUAGES": table.languages, "SERIES": series, "TARGETS": targets(table)}
-    lines = "".join(f'\npub const {name}: &str = "{" ".join(words)}";\n' for name, words in sets.items())
-    return f'pub const FORMS: &str = "\\\n{forms}";\n{lines}'
+    sets = {
+        "LANGUAGES": ("The words of all languages.", table.languages),
+        "SERIES": ("The words of the languages whose texts state a series.", series),
+        "TARGETS": ("The words of the languages that `translate` writes.", targets(table)),
+    }
+    lines = "".join(f'\n/// {told}\npub const {name}: &str = "{" ".join(words)}";\n' for name, (told, words) in sets.items())
+    return f'/// A line for each command: its name, and what is wanted behind it.\npub const FORMS: &str = "\\\n{forms}";\n{lines}'
 
 
 # ---- what `help`, `version` and `explain` print
@@ -392,7 +396,8 @@ def defined_pages(table):
 
 def calendars_release(table):
     release = (TOP / VERSION).read_text().strip()
-    return constant("VERSION", f"rr-calendars {release}\n") + f'/// The release alone.\npub const RELEASE: &str = "{release}";\n'
+    told = "/// The line that `--version` prints, with its end.\n"
+    return told + constant("VERSION", f"rr-calendars {release}\n") + f'/// The number of the release, as `--version` prints it behind the name.\npub const RELEASE: &str = "{release}";\n'
 
 
 PLACES = {

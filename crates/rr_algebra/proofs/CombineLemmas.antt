@@ -75,7 +75,7 @@ sets_placed kind times old new number placed set are =
       ];
     }
 
--- each set is made on a day, where the placed one is
+-- each set is made on a day, if the placed one is
 pub made_placed : (op : Op) (s u : Sketch) (day : ℤ) (times : List ℕ) (old new : List (List ℕ)) (number : ℕ) → IsPlaced times old new number
     → IsMadeOf op (times_on s day) (times_on u day) times → AreMadeOnDays op s u old → AreMadeOnDays op s u new
 made_placed op s u day times old new number placed made are = elim (grown times old new number placed) [

@@ -119,7 +119,7 @@ module _ (op : Op) (s u : Sketch) (vs : IsValidSketch s) (vu : IsValidSketch u) 
         | inr there ↦ subst (Contains sets) (sym same) there
       ]
 
-  -- where they are within the limit, so are all others that are made
+  -- if they are within the limit, so are all others that are made
   pub not_too_many : total_size sets ≤ MAX_SECONDS → HasTooManyMade op s u → ⊥
   not_too_many few many =
       omega (

@@ -81,6 +81,6 @@ pub record HasTooManyMade (op : Op) (s u : Sketch) : Type 0 where
 abbrev pub IsDayTooMany : Op → Sketch → Sketch → ℤ → List (List ℕ) → Type 0
 IsDayTooMany op s u day sets = IsOneTooMany op (times_on s day) (times_on u day) sets
 
--- too many moments are refused exactly where the distinct sets of the days have more
+-- too many moments are refused exactly if the distinct sets of the days have more
 abbrev pub RefusedWhereTooMany : {X : Type 0} → Op → Sketch → Sketch → Result X Fault → Type 0
 RefusedWhereTooMany op s u result = RefusedExactlyWhere (HasTooManyMade op s u) TooManyMoments result

@@ -1,4 +1,4 @@
--- The days of steps as numbers of their sets, one for each day from the first one on, 0 where a day is not occupied.
+-- The days of steps as numbers of their sets, one for each day from the first one on, 0 if a day is not occupied.
 use Rattle.std.specs.Prelude.{◌≡◌, ◌↔◌, ℕ, ◌+◌, ◌-◌, ◌<◌, ◌≤◌, List, [], ◌∷◌, ◌++◌, length, map, replicate, ⊤, Result, Ok, Err, Vec}
 use Rattle.std.specs.Global.{Global}
 use Rattle.rr_model.specs.Sets.Descriptor.{Step}
@@ -9,7 +9,7 @@ use Rattle.rr_model.specs.declared.refusal.Refusal.TheVariants.{NotCanonical}
 use Rattle.rr_algebra.specs.Found.{run_in}
 use Rattle.rr_algebra.specs.declared.runs.Run.{Run as RunRead}
 
--- the numbers of further steps, where `days` days have a number and the last occupied one has the index `last`
+-- the numbers of further steps, if `days` days have a number and the last occupied one has the index `last`
 abbrev pub dense : ℕ → ℕ → List Step → List ℕ
 dense days last [] = []
 dense days last (step ∷ steps) =
@@ -34,14 +34,14 @@ pub record IsPutBy (end sets : ℕ) (old : List ℕ) (last : ℕ) (steps : List 
   pub same : (rest : List Step) → new ++ dense (length new) index rest ≡ old ++ dense (length old) last (steps ++ rest)
   pub fits : (rest : List Step) → AreSteps end sets (length new) index rest ↔ AreSteps end sets (length old) last (steps ++ rest)
 
--- a call answers the refusal NotCanonical only where the steps do not fit, whatever steps follow
+-- a call answers the refusal NotCanonical only if the steps do not fit, whatever steps follow
 abbrev pub RefusedWhereNone : {X : Type 0} → ℕ → ℕ → ℕ → ℕ → List Step → Result X Fault → Type 0
 RefusedWhereNone end sets days last steps (Ok x) = ⊤
 RefusedWhereNone end sets days last steps (Err (Refused refusal)) =
     (refusal ≡ NotCanonical) × ((rest : List Step) → AreSteps end sets days last (steps ++ rest) → ⊥)
 RefusedWhereNone end sets days last steps (Err NoMemory) = ⊤
 
--- the numbers of the days of runs, or a refusal where their steps do not fit
+-- the numbers of the days of runs, or a refusal if their steps do not fit
 abbrev pub NumbersRuns : ℕ → ℕ → List RunRead → Result (Vec ℕ Global) Fault → Type 0
 NumbersRuns end sets runs (Ok numbers) =
     (numbers.items ≡ dense 0 0 (steps_of_runs (map run_in runs))) × AreSteps end sets 0 0 (steps_of_runs (map run_in runs))

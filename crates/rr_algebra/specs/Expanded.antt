@@ -72,15 +72,15 @@ pub record IsExpanded (kind : Kind) (count : ℕ) (shapes : List (List ℕ)) (p 
   pub same : s ≡ sketch_with (described_in kind shapes p.first p.before p.ending) p.ending
   pub expandable : AreExpandable count p
 
--- a refusal comes only where the runs of a set that ends leave their places
+-- a refusal comes only if the runs of a set that ends leave their places
 abbrev pub RefusedWhereNotFinite : {X : Type 0} → ℕ → ℤ → List RunRead → Result X Fault → Type 0
 RefusedWhereNotFinite count first before result = RefusedWhereNot (AreFinite count first (map run_in before)) result
 
--- a refusal comes only where the runs of a set that repeats leave their places
+-- a refusal comes only if the runs of a set that repeats leave their places
 abbrev pub RefusedWhereNotEndless : {X : Type 0} → ℕ → ℤ → List RunRead → Ending → Result X Fault → Type 0
 RefusedWhereNotEndless count first before e result = RefusedWhereNot (AreEndless count first (map run_in before) e) result
 
--- a refusal comes only where days leave their places or the bounds
+-- a refusal comes only if days leave their places or the bounds
 abbrev pub RefusedWhereNotExpandable : {X : Type 0} → ℕ → Parts → Result X Fault → Type 0
 RefusedWhereNotExpandable count p result = RefusedWhereNot (AreExpandable count p) result
 
@@ -94,7 +94,7 @@ abbrev pub AreBoth : ℕ → ℕ → ℕ → List RunRead → List RunRead → T
 AreBoth days period sets before cycle =
     AreSteps days sets 0 0 (steps_of_runs (map run_in before)) × AreSteps period sets 0 0 (steps_of_runs (map run_in cycle))
 
--- the numbers of the days before the settled day and of one period, or NotCanonical where a run leaves its places
+-- the numbers of the days before the settled day and of one period, or NotCanonical if a run leaves its places
 abbrev pub NumbersEndless : ℕ → ℕ → ℕ → List RunRead → List RunRead → Result (Vec ℕ Global) Fault → Type 0
 NumbersEndless days period sets before cycle (Ok numbers) =
     (numbers.items ≡ padded_to days (dense 0 0 (steps_of_runs (map run_in before))) ++ padded_to period (dense 0 0 (steps_of_runs (map run_in cycle))))

@@ -1,4 +1,4 @@
--- What is found where a text begins with the items of a time set. Nothing is said of other texts.
+-- What is found if a text begins with the items of a time set. Nothing is said of other texts.
 use Rattle.std.specs.Prelude.{◌≡◌, ℕ, ◌≤◌, false, List, [], ◌∷◌, ◌++◌, ⊤, Result, Ok, Err}
 use Rattle.std.specs.List.{All}
 use Rattle.rr_model.specs.Rising.Sets.{IsSecondsOfDay}
@@ -14,12 +14,12 @@ pub record EndsItem (rest : List ℕ) : Type 0 where
   pub no_digit : EndsDigits rest
   pub no_slash : begins_with 47 rest ≡ false
 
--- a refusal comes only where this is false
+-- a refusal comes only if this is false
 abbrev pub IsFaultWhereNot : Type 0 → Fault → Type 0
 IsFaultWhereNot P (Refused refusal) = (refusal ≡ NotCanonical) × (P → ⊥)
 IsFaultWhereNot P NoMemory = ⊤
 
--- what is answered is refused only where this is false
+-- what is answered is refused only if this is false
 abbrev pub RefusedWhereNot : {X : Type 0} → Type 0 → Result X Fault → Type 0
 RefusedWhereNot P (Ok x) = ⊤
 RefusedWhereNot P (Err fault) = IsFaultWhereNot P fault
@@ -28,11 +28,11 @@ RefusedWhereNot P (Err fault) = IsFaultWhereNot P fault
 abbrev pub GoOn : List ℕ → List ℕ → Type 0
 GoOn seconds more = (rest : List ℕ) × IsSecondsOfDay (seconds ++ (more ++ rest))
 
--- a refusal comes only where the second does not go on with these
+-- a refusal comes only if the second does not go on with these
 abbrev pub RefusedWhereNotNext : {X : Type 0} → List ℕ → ℕ → Result X Fault → Type 0
 RefusedWhereNotNext old second result = RefusedWhereNot (GoOn old (second ∷ [])) result
 
--- a refusal comes only where the row is short or does not go on with these
+-- a refusal comes only if the row is short or does not go on with these
 abbrev pub RefusedWhereNoRow : {X : Type 0} → List ℕ → ℕ → ℕ → ℕ → Result X Fault → Type 0
 RefusedWhereNoRow old start step count result = RefusedWhereNot ((3 ≤ count) × GoOn old (seconds_from start step count)) result
 
@@ -51,7 +51,7 @@ pub record BeginsItem (text old : List ℕ) : Type 0 where
   pub text_is : text ≡ 32 ∷ (item_text item ++ rest)
   pub go_on : GoOn old (seconds_from item.start item.step item.count)
 
--- a refusal comes only where the text begins with no such item
+-- a refusal comes only if the text begins with no such item
 abbrev pub RefusedWhereNoItem : {X : Type 0} → List ℕ → List ℕ → Result X Fault → Type 0
 RefusedWhereNoItem text old result = RefusedWhereNot (BeginsItem text old) result
 
@@ -69,6 +69,6 @@ pub record BeginsSeconds (text : List ℕ) : Type 0 where
   pub text_is : text ≡ 116 ∷ (items_text items ++ (10 ∷ rest))
   pub of_day : IsSecondsOfDay (seconds_of items)
 
--- a refusal comes only where the text begins with no line of a time set
+-- a refusal comes only if the text begins with no line of a time set
 abbrev pub RefusedWhereNoSeconds : {X : Type 0} → List ℕ → Result X Fault → Type 0
 RefusedWhereNoSeconds text result = RefusedWhereNot (BeginsSeconds text) result

@@ -22,7 +22,7 @@ use std::alloc::Global;
 /// What is made of two sets of occurrences.
 pub type Combined = Folded;
 
-// The number of the set of a day plus 1, or 0 where the day has none.
+// The number of the set of a day plus 1, or 0 if the day has none.
 fn number_on<A: DaySeq>(seq: &A, day: i64) -> usize
     requires low { earliest_taken ≤ℤ day }
     requires high { day ≤ℤ latest_taken }
@@ -166,7 +166,7 @@ fn combined_days<A: DaySeq, B: DaySeq>(
     }
 }
 
-// The earlier of a day and the first day of a set, where it has one.
+// The earlier of a day and the first day of a set, if it has one.
 fn earlier_day(first: Option<i64>, day: i64) -> i64
     requires first { IfSome first IsNearDay }
     requires day { IsNearDay day }
@@ -253,8 +253,8 @@ fn union_apart<A: DaySeq, B: DaySeq>(alloc: Global, one: &A, other: &B) -> Resul
 
 /// The union, the common part or the difference of two sets of occurrences.
 ///
-/// `MixedSets` comes exactly where the union is asked of two sets of different kinds, neither of which is empty; an empty set goes
-/// with either kind. Else `TooManyMoments` comes exactly where the distinct time sets of the result have together more than
+/// `MixedSets` comes exactly if the union is asked of two sets of different kinds, neither of which is empty; an empty set goes
+/// with either kind. Otherwise `TooManyMoments` comes exactly if the distinct time sets of the result have together more than
 /// `MAX_SECONDS` seconds. Neither the period nor the settled day of the result need be the least.
 ///
 /// It keeps four bytes for each day from the first occupied one of both up to the least common multiple of the periods past the

@@ -6,7 +6,7 @@ use crate::runs::Run;
 use rr_model::{Fault, NoMemory, Refusal};
 use std::alloc::Global;
 
-// The index that lies `gap` after the last one, where it has no number yet and lies before the end.
+// The index that lies `gap` after the last one, if it has no number yet and lies before the end.
 fn next_index(days: usize, last: usize, gap: u64, end: usize) -> Option<usize>
     requires { last ≤ end }
     ensures { MatchOption result (IsStepTo days last gap end → ⊥)
@@ -79,8 +79,9 @@ fn put_run(
     Ok(last)
 }
 
-/// For each day from the first one up to the last one of these runs the number of its set and 1, or 0 where it has none.
-/// The steps of a run are taken one by one, where its last day lies before the end; else none is taken.
+/// For each day from the first one up to the last one of these runs the number of its set and 1, or 0 if it has none.
+/// `NotCanonical` comes if a run has steps or a set that do not fit. The steps of a run are taken one by one, if its
+/// last day lies before the end; otherwise none is taken.
 pub fn numbers_of(alloc: Global, runs: &[Run], end: usize, sets: usize) -> Result<Vec<u32>, Fault>
     requires few { end ≤ 100_000_000 }
     requires sets { sets ≤ 100_000_000 }

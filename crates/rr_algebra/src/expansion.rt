@@ -16,7 +16,7 @@ use std::alloc::Global;
 /// The last day that a descriptor may state.
 pub const LAST_DAY: i64 = 40_000_000;
 
-/// Whether a descriptor may state a day.
+/// Whether a descriptor may state a day, in days since 1970-01-01: one from the year 1 on and up to `LAST_DAY`.
 pub fn is_read_day(day: i64) -> bool
     ensures { IsTrue result ↔ IsReadDay day }
 {
@@ -32,7 +32,7 @@ fn day_after(from: i64, days: usize) -> i64
     from + days as i64
 }
 
-/// Puts 0 up to a length, where there are fewer numbers.
+/// Puts 0 up to a length, if there are fewer numbers.
 pub fn fill_up(numbers: &mut Vec<u32>, days: usize) -> Result<(), NoMemory>
     requires { length numbers.old.items ≤ days }
     ensures { OnOk result (numbers.new.items ≡ padded_to days numbers.old.items) }
@@ -125,7 +125,7 @@ fn add_numbers(numbers: &mut Vec<u32>, more: &[u32]) -> Result<(), NoMemory>
     Ok(())
 }
 
-// A set that repeats.
+// The days of a set that repeats, from the lines of its descriptor; refused if a run leaves its places.
 fn endless_sequence(
     alloc: Global,
     kind: Kind,
@@ -169,7 +169,8 @@ fn endless_sequence(
     Ok(folded)
 }
 
-/// The sequence of the days that a descriptor states, where each lies in its place and within the bounds.
+/// The sequence of the days that a descriptor states. `NotCanonical` comes if a day does not lie in its place or within
+/// the bounds.
 pub fn sequence_of_parts(
     alloc: Global,
     kind: Kind,

@@ -50,7 +50,7 @@ fn take_kind(text: &[u8]) -> (Kind, &[u8])
     }
 }
 
-// The time sets, which have lines of their own where they are of moments, and what follows the lines.
+// The time sets, which have lines of their own if they are of moments, and what follows the lines.
 fn take_kind_sets<'a>(
     alloc: Global,
     kind: Kind,
@@ -157,7 +157,7 @@ fn is_text_of(alloc: Global, text: &[u8], least: &LeastSeq) -> Result<bool, NoMe
     Ok(is_same_text(printed.as_slice(), text))
 }
 
-// Whether a text is a descriptor, where its lines state these days.
+// Whether a text is a descriptor, if its lines state these days.
 fn is_descriptor(alloc: Global, text: &[u8], days: &Folded) -> Result<bool, NoMemory>
     requires { IsStated (drop 10 text.now) (sketch days.now) }
     ensures yes { IfOk result (λ is. IsTrue is → IsDescriptor text.now (sketch days.now)) }
@@ -167,7 +167,7 @@ fn is_descriptor(alloc: Global, text: &[u8], days: &Folded) -> Result<bool, NoMe
     is_text_of(alloc, text, &least)
 }
 
-// The sequence that a descriptor states. What is read is printed again in its version, so that it is refused exactly where the text is
+// The sequence that a descriptor states. What is read is printed again in its version, so that it is refused exactly if the text is
 // not that of the least sketch of a set.
 fn read_text(alloc: Global, text: &[u8]) -> Result<Described, Fault>
     ensures described { IfOk result (λ f. IsDescriptor text.now (sketch f)) }
@@ -187,7 +187,7 @@ fn read_text(alloc: Global, text: &[u8]) -> Result<Described, Fault>
 
 /// Reads a canonical text of either version, behind at most one byte order mark.
 ///
-/// `NotCanonical` exactly where the bytes are not what `describe` or `describe_one` prints of a set whose first occupied day and
+/// `NotCanonical` exactly if the bytes are not what `describe` or `describe_one` prints of a set whose first occupied day and
 /// settled day are at most day 40,000,000 (days are numbered from 1970-01-01, which is day 0), whose period is at most
 /// `MAX_CYCLE_DAYS` days, and whose distinct time sets have together at most `MAX_SECONDS` seconds. No other refusal comes.
 ///

@@ -23,7 +23,7 @@ fn is_next(seconds: &[u32], second: u64) -> bool
     }
 }
 
-// Adds a second, where it is one of a day and above these.
+// Adds a second, if it is one of a day and above these.
 fn push_second(seconds: &mut Vec<u32>, second: u64) -> Result<(), Fault>
     requires { IsSecondsOfDay seconds.old.items }
     ensures added { OnOk result (seconds.new.items ≡ seconds.old.items ++ second ∷ []) }
@@ -87,7 +87,8 @@ fn take_item<'a>(text: &'a [u8], seconds: &mut Vec<u32>) -> Result<&'a [u8], Fau
     }
 }
 
-/// The seconds of a line of a time set, and what follows the line.
+/// The seconds of a line of a time set, below 86,400, and what follows the line. `NotCanonical` comes if the text does
+/// not begin with such a line.
 pub fn take_seconds(alloc: Global, text: &[u8]) -> Result<(Vec<u32>, &[u8]), Fault>
     ensures found { IfOk result (λ x. FindsSeconds text.now x.0.items x.1.now) }
     ensures of_day { IfOk result (λ x. IsSecondsOfDay x.0.items) }

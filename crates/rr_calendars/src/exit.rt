@@ -5,7 +5,7 @@ ghost use Rattle.rr_calendars.specs.Exit.{exit_number};
 use crate::ended::Ended;
 use rr_io::NotRun;
 
-/// The exit status: the number of the status where the words were run.
+/// The exit status: the number of the status if the words were run.
 pub fn exit_number(ended: Result<Ended, NotRun>) -> u8
     ensures { result ≡ exit_number ended }
 {

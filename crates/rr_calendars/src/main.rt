@@ -56,7 +56,7 @@ fn made_note(
     }
 }
 
-// Notes on standard error.
+// Puts a note on standard error, after the name of the program.
 fn note(rt: &HostRuntime, text: &str) {
     put_note(rt, "rr-calendars", text)
 }

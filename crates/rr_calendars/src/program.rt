@@ -25,16 +25,16 @@ pub fn run<S: Source, K: Sink, W: Watch>(
     ensures answer { EndsAnswered result.status result.in_utc (asked_of_words words.now)
         (S.held source.old) (K.written sink.old) (K.written sink.new) }
 
-    // A fault is answered only where the fetch of a file or the put has failed, and then that alone.
+    // A fault is answered only if the fetch of a file or the put has failed, and then that alone.
     ensures cause { HasCause result.status (asked_of_words words.now)
         S.failed source.old source.new K.faults sink.old sink.new }
 
-    // The same over a source that does not tell what it holds.
+    // What `answer` says of usage and of a run that puts nothing, over a source that does not tell what it holds.
     ensures usage { result.status ≡ Status.Usage → IsNone (asked_of_words words.now) }
     ensures quiet { (result.status ≡ Status.ReadFault) ⊎ (result.status ≡ Status.NoMemory)
         → K.written sink.new ≡ K.written sink.old }
 
-    // Where nothing failed the answer comes, unless out of memory.
+    // If nothing failed the answer comes, unless out of memory.
     ensures complete { IsComplete result.status (asked_of_words words.now) S.held
         S.failed source.old source.new K.faults sink.old sink.new }
 {

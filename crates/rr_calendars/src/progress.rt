@@ -48,7 +48,7 @@ pub(crate) struct Progress<R: Clock + Eprint + Drop> {
 }
 
 impl<R: Clock + Eprint + Drop> Progress<R> {
-    /// Nothing is told yet, and nothing will be where standard error is no terminal.
+    /// Nothing is told yet, and nothing will be if standard error is no terminal.
     pub(crate) fn new(rt: R, is_terminal: bool) -> Self {
         let begun = if is_terminal {
             Instant::now(&rt).ok()
@@ -81,7 +81,7 @@ impl<R: Clock + Eprint + Drop> Watch for Progress<R> {
         self.is_shown = true;
     }
 
-    // The line is wiped.
+    // Wipes the line, if it is shown.
     fn on_ended(&mut self) {
         if self.is_shown {
             let _ = eprint!(self.rt; "\r{:1$}\r", "", WIDTH);

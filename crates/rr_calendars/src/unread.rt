@@ -17,7 +17,7 @@ fn unread_in(rt: &HostRuntime, file: Operand) -> Option<Unread> {
     unread_components(rt.alloc(), bytes).ok()
 }
 
-// What is noted of a file with so many tasks and journal entries.
+// What is noted of a file by how many tasks and journal entries it has.
 fn text_on_unread(alloc: Global, side: Side, unread: Unread) -> Result<String, AllocError> {
     let name = match side {
         Side::A => "OLD",

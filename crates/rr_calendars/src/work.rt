@@ -94,7 +94,8 @@ fn fetch_asked<S: Source>(
     }
 }
 
-/// What the words ask, worked out over the files, which are fetched in order.
+/// What the words ask, worked out over the files, which are fetched in order. `Failed` comes if a file cannot be
+/// fetched.
 pub fn outcome_of<S: Source, W: Watch>(
     alloc: Global,
     words: &[&str],

@@ -48,7 +48,7 @@ frequency Weekly rule n c h = inr (record { no_month = refl; no_month_day = refl
 frequency Monthly rule n c h = inl (dvd_trans 146_097 (dvd-mul_right 146_097 (n / gcd n 4_800)) h)
 frequency Yearly rule n c h = inl (dvd_trans 146_097 (dvd-mul_right 146_097 (n / gcd n 400)) h)
 
--- ---- the filled rule, where nothing follows the calendar
+-- ---- the filled rule, if nothing follows the calendar
 
 unfilled : {X : Type 0} (b : Bool) (values : List X) (own : X) → b ≡ false → is_absent values ≡ true → is_absent (filled_part b values own) ≡ true
 unfilled b values own e h = rw e h
@@ -67,7 +67,7 @@ four_absent true true false d h = absurd (false≢true (sym h))
 four_absent true false c d h = absurd (false≢true (sym h))
 four_absent false b c d h = absurd (false≢true (sym h))
 
--- an allowed rule has no place where its frequency takes none
+-- an allowed rule has no place if its frequency takes none
 no_place : (rule : Rule) → is_allowed rule ≡ true → takes_ordinals rule.freq (is_absent rule.by_week_no) ≡ false → has_ordinals rule.by_day ≡ false
 no_place rule allowed none =
     let x = takes_ordinals rule.freq (is_absent rule.by_week_no) in

@@ -12,7 +12,7 @@ use rr_num::{day_cycle, lcm_within};
 /// The cycle of a series in days: the least common multiple of the cycles of its endless rules, excluded ones among them, 1 if
 /// there is none.
 ///
-/// `CycleTooLong` exactly where it is above `MAX_CYCLE_DAYS`.
+/// `CycleTooLong` exactly if it is above `MAX_CYCLE_DAYS`.
 pub fn admit(checked: &Checked) -> Result<u64, Refusal>
     ensures admitted { IfOk result (λ days. (days ≡ series_cycle checked.now)
         × (days ≤ MAX_CYCLE_DAYS)) }
@@ -32,7 +32,7 @@ pub fn admit(checked: &Checked) -> Result<u64, Refusal>
     }
 }
 
-// The cycle of rules; `None` where it is above `MAX_CYCLE_DAYS`.
+// The cycle of rules; `None` if it is above `MAX_CYCLE_DAYS`.
 fn cycle_of(rules: &[Rule]) -> Option<u64>
     requires { All (λ rule. 1 ≤ rule.interval) rules.now }
     ensures { SomeIff result (rules_cycle rules.now ≤ MAX_CYCLE_DAYS) (rules_cycle rules.now) }
@@ -47,7 +47,7 @@ fn cycle_of(rules: &[Rule]) -> Option<u64>
     Some(cycle)
 }
 
-// What a rule adds to the cycle of its series: its own cycle where it is endless, and nothing where it ends.
+// What a rule adds to the cycle of its series: its own cycle if it is endless, and nothing if it ends.
 fn endless_cycle(rule: &Rule) -> u128
     requires { 1 ≤ rule.now.interval }
     ensures value { result ≡ endless_cycle rule.now.end rule.now }
@@ -59,7 +59,7 @@ fn endless_cycle(rule: &Rule) -> u128
     }
 }
 
-// The least common multiple of a cycle and another; `None` where it is above `MAX_CYCLE_DAYS`.
+// The least common multiple of a cycle and another; `None` if it is above `MAX_CYCLE_DAYS`.
 pub(crate) fn join_cycles(cycle: u64, days: u128) -> Option<u64>
     requires some { 1 ≤ cycle }
     requires some_days { 1 ≤ days }

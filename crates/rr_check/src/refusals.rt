@@ -8,7 +8,7 @@ ghost use Rattle.rr_model.specs.Series.Soundness.{choice_refusal, end_refusal, e
 use rr_model::{End, Kind, Refusal, Rule, Series};
 use rr_setpos::chosen;
 
-// The first refusal of a series: of a rule, else of an excluded one.
+// The first refusal of a series: that of a rule, or, if its rules are sound, that of an excluded rule.
 pub(crate) fn first_refusal(series: &Series) -> Option<Refusal>
     requires valid { IsValidSeries series.now }
     ensures { result ≡ first_refusal series.now }
@@ -50,7 +50,7 @@ fn ends_refusal(kind: Kind, start: i64, rules: &[Rule]) -> Option<Refusal>
     None
 }
 
-// The refusal of the rule of this number; whether it chooses its start is asked where its end is sound.
+// The refusal of the rule of this number; whether it chooses its start is asked if its end is sound.
 fn rule_refusal(number: u32, kind: Kind, start: i64, rule: &Rule) -> Option<Refusal>
     requires valid { IsValidRule kind rule.now }
     requires start { IsInYears kind start }
@@ -62,8 +62,8 @@ fn rule_refusal(number: u32, kind: Kind, start: i64, rule: &Rule) -> Option<Refu
     }
 }
 
-/// The refusal of the end of a rule beside a start: of its UNTIL `UntilKind` where it is of another kind than the start, and
-/// else `UntilBeforeStart` where it is earlier.
+/// The refusal of the end of a rule beside a start, which is in days or seconds since 1970-01-01: `UntilKind` if its
+/// UNTIL is of another kind than the start, otherwise `UntilBeforeStart` if it is earlier; `None` if neither is so.
 pub fn end_refusal(kind: Kind, start: i64, end: End) -> Option<Refusal>
     ensures { result ≡ end_refusal kind start end }
 {

@@ -26,7 +26,7 @@ impl Model for Checked {
 }
 
 impl Checked {
-    /// The series as it was given.
+    /// The series, as it was given to `check`.
     pub fn series(&self) -> &Series
         ensures value { result.now ≡ self.now }
         ensures sound { IsSound result.now }
@@ -37,8 +37,8 @@ impl Checked {
 
 /// Judges the rules of a series beside its start, and drops a series that it refuses.
 ///
-/// For each rule in order: `UntilKind` where its UNTIL has another kind than the start, then `UntilBeforeStart`,
-/// then `NotSynchronised` with the rule's number, from 1, where the rule does not choose the start
+/// For each rule in order: `UntilKind` if its UNTIL has another kind than the start, then `UntilBeforeStart`,
+/// then `NotSynchronised` with the rule's number, from 1, if the rule does not choose the start
 /// (RFC 5545, section 3.8.5.3). Then for each excluded rule the first two; it need not choose the start.
 pub fn check(series: Series) -> Result<Checked, Refusal>
     requires valid { IsValidSeries series }

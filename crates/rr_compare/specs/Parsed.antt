@@ -13,11 +13,11 @@ use Rattle.rr_compare.specs.declared.words.Request.{Request as ParsedRequest}
 abbrev pub words_of : List (Bor (List ℕ)) → List (List ℕ)
 words_of words = map (λ (w : Bor (List ℕ)). w.now) words
 
--- what the words ask, where they ask something
+-- what the words ask, if they ask something
 abbrev pub asked_of_words : List (Bor (List ℕ)) → Option Asked
 asked_of_words words = asked_of (words_of words)
 
--- the text of a word, where there is one
+-- the text of a word, if there is one
 abbrev pub word_in : Option (Bor (List ℕ)) → Option (List ℕ)
 word_in word = option_map (λ (w : Bor (List ℕ)). w.now) word
 

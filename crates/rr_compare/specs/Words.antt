@@ -52,7 +52,7 @@ nothing_given = record { old = None; new = None; only_differences = false; title
 abbrev pub offset_in : List ℕ → Option ℤ
 offset_in text = if (length text == 6) && (slice_index text 3 == 58) then offset_of (take 3 text) (drop 4 text) else None
 
--- the words so far with one file more: A, or else B; None if both are there
+-- the words so far with a further file: A, or B if A is there; None if both are there
 abbrev pub with_operand : Given → Operand → Option Given
 with_operand given operand =
     if not (is_some given.old) then Some (record given { old = Some operand })
@@ -62,16 +62,16 @@ with_operand given operand =
 abbrev pub with_file : Given → List ℕ → Option Given
 with_file given word = option_and_then (with_operand given) (operand_of word)
 
--- the words so far with the value of `--offset`; None where it is no offset
+-- the words so far with the value of `--offset`; None if it is no offset
 abbrev pub with_offset : Given → List ℕ → Option Given
 with_offset given text = option_map (λ offset. record given { offset = Some offset; next = Word }) (offset_in text)
 
--- the words so far with the value of `--zones`; None where it is empty
+-- the words so far with the value of `--zones`; None if it is empty
 abbrev pub with_zones : Given → List ℕ → Option Given
 with_zones given [] = None
 with_zones given (b ∷ bs) = Some (record given { zones = Some (b ∷ bs); next = Word })
 
--- the words so far with the value of `--show`; None where it is empty
+-- the words so far with the value of `--show`; None if it is empty
 abbrev pub with_name : Given → List ℕ → Option Given
 with_name given [] = None
 with_name given (b ∷ bs) = Some (record given { show = Some (b ∷ bs); next = Word })
@@ -96,23 +96,23 @@ with_option given word =
     else (if bytes_eq word (codes "--show") && not (is_some given.show) then Some (record given { next = Name })
     else with_file given word))))))))
 
--- the words so far with one word more, by what the word before asks for; None where it is refused
+-- the words so far with one word more, by what the word before asks for; None if it is refused
 abbrev pub with_next : Next → Given → List ℕ → Option Given
 with_next Word given word = with_option given word
 with_next Offset given word = with_offset given word
 with_next Zones given word = with_zones given word
 with_next Name given word = with_name given word
 
--- the words so far with one word more; None where it is refused
+-- the words so far with one word more; None if it is refused
 abbrev pub with_word : Given → List ℕ → Option Given
 with_word given word = with_next given.next given word
 
--- the words so far with these words more; None where one is refused
+-- the words so far with these words more; None if one is refused
 abbrev pub with_words : Given → List (List ℕ) → Option Given
 with_words given [] = Some given
 with_words given (word ∷ words) = option_and_then (λ next. with_words next words) (with_word given word)
 
--- what all the words of a comparison state; None where one is refused
+-- what all the words of a comparison state; None if one is refused
 abbrev pub given_of : List (List ℕ) → Option Given
 given_of words = with_words nothing_given words
 
@@ -170,7 +170,7 @@ is_only wanted [] = false
 is_only wanted (word ∷ []) = bytes_eq word wanted
 is_only wanted (word ∷ next ∷ words) = false
 
--- what the words ask, where they ask something
+-- what the words ask, if they ask something
 unfoldable pub asked_of : List (List ℕ) → Option Asked
 asked_of words =
     if is_only (codes "--help") words then Some help

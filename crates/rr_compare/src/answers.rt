@@ -29,9 +29,9 @@ use std::alloc::Global;
 /// What is to be put, and how the run then ends.
 #[derive(Drop)]
 pub struct Outcome {
-    /// How the run ends.
+    /// How the run ends, if the text can be put.
     pub status: Status,
-    /// What is put.
+    /// What is put, all at once.
     pub text: Vec<u8>,
     /// How many events state UTC beside local time.
     pub in_utc: usize,

@@ -22,7 +22,7 @@ pub(crate) fn offset_by(own: Option<i32>, both: Option<i32>) -> Option<i32>
     }
 }
 
-// One of two files, in the language in which it is read, beside the stated offset of both.
+// What a report tells of one of two files: its language as it was read, and its own offset or that of both.
 fn file_facts_of<'a>(
     file: Operand<'a>,
     language: Language,

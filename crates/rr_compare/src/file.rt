@@ -23,11 +23,11 @@ use std::alloc::Global;
 /// A file of either calendar, in its language.
 #[derive(Drop)]
 pub enum AnyFile<'a> {
-    /// iCalendar (RFC 5545).
+    /// A text of iCalendar (RFC 5545).
     Ics(IcalFile<'a>),
     /// A list of events of Microsoft Graph.
     Graph(GraphCalendar),
-    /// vCalendar 1.0.
+    /// A text of vCalendar 1.0.
     Vcal(VcalFile<'a>),
 }
 

@@ -15,7 +15,7 @@ use std::alloc::Global;
 /// which has no zone.
 #[derive(Drop)]
 pub struct GraphCalendar {
-    /// The list.
+    /// The list with its events.
     pub file: GraphFile,
     /// Whether an offset is stated.
     pub is_turned: bool,
@@ -58,7 +58,7 @@ impl GraphCalendar {
         }
     }
 
-    /// What the events of these indexes state together.
+    /// What the events of these indexes state together. Beside a stated offset UTC is no zone of theirs.
     pub fn key_series(&self, alloc: Global, indexes: &[usize]) -> Result<KeySeries, KeyFault>
         ensures { AnswersStated ((calendar_in self.now).stated indexes.now) result }
     {

@@ -18,9 +18,9 @@ use std::alloc::Global;
 pub struct Names<'n, 'a> {
     /// The zones of its own file.
     pub own: &'n Definitions<'a>,
-    /// Those of the file that it is compared with.
+    /// The zones of the file that it is compared with.
     pub other: &'n Definitions<'a>,
-    /// Those of the file that defines further zones.
+    /// The zones of the file that defines further ones.
     pub more: &'n Definitions<'a>,
     /// How far local time without a zone is ahead of UTC, in seconds, if that is stated.
     pub offset: Option<i32>,

@@ -9,11 +9,11 @@ use rr_text::offset_of;
 /// The language of a calendar file.
 #[derive(Clone, Copy, Debug, PartialEq, Eq)]
 pub enum Language {
-    /// iCalendar (RFC 5545).
+    /// iCalendar, a text of RFC 5545; its word is `ics`.
     Ics,
-    /// A list of events of Microsoft Graph.
+    /// A list of events of Microsoft Graph, in JSON; its word is `graph`.
     Graph,
-    /// vCalendar 1.0.
+    /// vCalendar 1.0; its word is `vcal`.
     Vcal,
 }
 
@@ -138,7 +138,8 @@ fn by_parts<'a>(word: &'a str, head: &str, rest: &'a str) -> Option<Operand<'a>>
     }
 }
 
-/// The file that a word names: `LANGUAGE:NAME`, `LANGUAGE@OFFSET:NAME`, or the bare name of one whose content tells its language.
+/// The file that a word names: `LANGUAGE:NAME`, `LANGUAGE@OFFSET:NAME`, or the bare name of one whose content tells its
+/// language; `None` of a word that names none so.
 #[tactic(auto, unfolding(crate::specs::Operands::operand_of))]
 pub fn operand_of(word: &str) -> Option<Operand>
     ensures { option_map operand_in result ≡ operand_of word.now }

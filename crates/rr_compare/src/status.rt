@@ -2,7 +2,7 @@
 ghost use Rattle.std.specs.Prelude.{◌≡◌};
 ghost use Rattle.rr_compare.specs.Answer.{code_of};
 
-/// How a run ends.
+/// How a run of `rr-calendars` ends; `exit_number` of rr_calendars has the number of each.
 #[derive(Clone, Copy, Debug, PartialEq, Eq)]
 pub enum Status {
     /// All events are equal, or help was asked for.
@@ -11,13 +11,13 @@ pub enum Status {
     Differs,
     /// Neither, but an event or a file is refused.
     Refused,
-    /// The words ask nothing.
+    /// The words are no comparison, no help and no version.
     Usage,
     /// A file could not be fetched.
     ReadFault,
     /// The output could not be put, or not all of it.
     WriteFault,
-    /// Out of memory.
+    /// Out of memory; nothing was put.
     NoMemory,
 }
 

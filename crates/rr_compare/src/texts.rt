@@ -14,9 +14,9 @@ use std::borrow::CowSlice;
 /// The bytes of the files that words name.
 #[derive(Clone, Copy)]
 pub struct Texts<'a> {
-    /// Of the file A.
+    /// The bytes of the file A.
     pub old: &'a [u8],
-    /// Of the file B.
+    /// The bytes of the file B.
     pub new: &'a [u8],
     /// Of the file that defines further zones, empty if there is none.
     pub zones: &'a [u8],
@@ -50,7 +50,7 @@ pub(crate) fn text_in(
     }
 }
 
-// The bytes of a file, but none of one that has more than a file may have: it may be the first part of a longer one.
+// The bytes of a file, or none if it has more than a file may have: they may be the first part of a longer one.
 fn text_within(bytes: &[u8]) -> &[u8]
     ensures { result.now ≡ text_within bytes.now }
 {
@@ -70,11 +70,11 @@ fn zone_text(language: Language, bytes: &[u8]) -> &[u8]
 /// The zones that the files define.
 #[derive(Drop)]
 pub(crate) struct Zones<'a> {
-    /// Those of the file A.
+    /// The zones that the file A defines.
     pub(crate) old: Definitions<'a>,
-    /// Those of the file B.
+    /// The zones that the file B defines.
     pub(crate) new: Definitions<'a>,
-    /// The further ones.
+    /// The zones that the file of `--zones` defines.
     pub(crate) more: Definitions<'a>,
 }
 

@@ -10,7 +10,7 @@ use rr_text::offset_of;
 pub const USAGE: &[u8] =
     b"usage: rr-calendars OLD NEW [--differences] [--titles] [--json | --html] [--strict] [--by-uid] [--offset +HH:MM] [--zones FILE] [--show UID]\n";
 
-/// The page of help.
+/// The page that `--help` prints.
 pub const HELP: &[u8] =
     b"rr-calendars says of two calendar files whether each event survived the trip between them, for all years to come.
 
@@ -69,18 +69,18 @@ equal with zone behind it, 3 for other words, 4 if a file could not be read, 5 i
 pub enum Form {
     /// A line for each event.
     Lines,
-    /// One JSON object.
+    /// One object of JSON (RFC 8259).
     Json,
-    /// One page of HTML.
+    /// One page of HTML, which needs nothing from elsewhere.
     Html,
 }
 
 /// What is asked of two files.
 #[derive(Clone, Copy)]
 pub struct Request<'a> {
-    /// The file A.
+    /// The file A, which stands first.
     pub old: Operand<'a>,
-    /// The file B.
+    /// The file B, which stands second.
     pub new: Operand<'a>,
     /// Whether the lines of equal events are left out.
     pub only_differences: bool,
@@ -100,14 +100,14 @@ pub struct Request<'a> {
     pub form: Form,
 }
 
-/// What the words ask.
+/// What the words of a command line ask.
 #[derive(Clone, Copy)]
 pub enum Asked<'a> {
-    /// The page of help.
+    /// The page of help, by `--help` alone.
     Help,
-    /// The line that names the release.
+    /// The line that names the release, by `--version` alone.
     Version,
-    /// A comparison.
+    /// A comparison of two files.
     Comparison(Request<'a>),
 }
 
@@ -116,15 +116,15 @@ pub enum Asked<'a> {
 pub enum Next {
     /// A file or an option.
     Word,
-    /// The value of `--offset`.
+    /// The value of `--offset`, as `+01:00`.
     Offset,
-    /// The value of `--zones`.
+    /// The value of `--zones`, a file.
     Zones,
-    /// The value of `--show`.
+    /// The value of `--show`, the name of an event.
     Name,
 }
 
-// The words so far.
+// What the words so far ask, and what the next one is.
 #[derive(Clone, Copy)]
 struct Given<'a> {
     old: Option<Operand<'a>>,
@@ -271,7 +271,7 @@ fn with_option<'a>(given: Given<'a>, word: &'a str) -> Option<Given<'a>>
     }
 }
 
-// With one word more.
+// The words so far with a further one; none if it is refused.
 fn with_word<'a>(given: Given<'a>, word: &'a str) -> Option<Given<'a>>
     ensures { option_map given_in result ≡ with_word (given_in given.entry) word.now }
 {
@@ -375,7 +375,7 @@ fn is_only(word: &str, words: &[&str]) -> bool
     words[0] == word
 }
 
-/// What the words ask, where they ask something: `--help` or `--version` alone, or two files, with `--differences`, `--titles`, `--json` or
+/// What the words ask, if they ask something: `--help` or `--version` alone, or two files, with `--differences`, `--titles`, `--json` or
 /// `--html`, `--strict`, `--by-uid`, `--offset`, `--zones` and `--show` at any place; `--show` stands beside neither `--json` nor `--html`.
 #[tactic(auto, unfolding(crate::specs::Words::asked_of))]
 pub fn parse<'a>(words: &[&'a str]) -> Option<Asked<'a>>
@@ -401,7 +401,7 @@ fn of_two_texts(asked: Option<Asked>) -> Option<Asked>
     }
 }
 
-/// What the words ask where there are two texts and no files: the same, but nothing with `--zones`.
+/// What the words ask if there are two texts and no files: the same, but nothing with `--zones`.
 pub fn parse_of_two<'a>(words: &[&'a str]) -> Option<Asked<'a>>
     ensures { option_map asked_in result ≡ of_two_texts (asked_of_words words.now) }
 {

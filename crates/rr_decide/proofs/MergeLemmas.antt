@@ -30,7 +30,7 @@ HoldsOn-one Both A P Q h g = absurd (g.1 h.1)
 HoldsOn-one Both B P Q h g = absurd (g.1 h.0)
 HoldsOn-one Both Both P Q h g = refl
 
--- equal lists show nothing where what both have does not
+-- equal lists show nothing if what both have does not
 pub equal_show_none : (shows : Side → Bool) (xs ys : List ℕ) → xs ≡ ys → shows Both ≡ false → ShowsNone shows xs ys
 equal_show_none shows xs ys e hidden w (A, shown, h) = h.1 (subst (λ (l : List ℕ). Contains l w) e h.0)
 equal_show_none shows xs ys e hidden w (B, shown, h) = h.1 (subst (λ (l : List ℕ). Contains l w) (sym e) h.0)
@@ -92,7 +92,7 @@ empty_shows_none shows xs ys e f w (r, t, h) =
       | inr c ↦ Contains-none w (subst (λ (l : List ℕ). Contains l w) f c)
     ]
 
--- ---- where a list is empty
+-- ---- if a list is empty
 
 pub none_below_equal : (a b n : ℕ) → n ≡ min a b → ShowsNoneBelow (shown_by Equal) a b n
 none_below_equal a b n e k l xs ys ex ey = empty_shows_none (shown_by Equal) xs ys (ex (omega arith)) (ey (omega arith))

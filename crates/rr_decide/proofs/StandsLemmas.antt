@@ -28,7 +28,7 @@ use Rattle.rr_decide.proofs.OrderLemmas.{Before-compare, earlier_parts}
 
 -- ---- one sketch
 
--- of the sketch's kind an occurrence stands where its day has its second
+-- of the sketch's kind an occurrence stands if its day has its second
 pub stands_where : (s : Sketch) (k : Kind) (t : ℤ) → k ≡ s.kind → StandsIn s k t ↔ Contains (times_on s (day_part k t)) (second_part k t)
 stands_where s k t e = ((λ h. h.second), (λ c. record { kind = e; second = c }))
 
@@ -138,7 +138,7 @@ module _ (shows : Side → Bool) (s u : Sketch) (e : s.kind ≡ u.kind) where
 -- ---- two sketches with nothing in common
 
 module _ (shows : Side → Bool) (s u : Sketch) (apart : AreApart (StandsIn s) (StandsIn u)) where
-  -- an occurrence of one alone, where no earlier one of either side shows it
+  -- an occurrence of one alone, if no earlier one of either side shows it
   pub yes_apart : (IsTrue (shows A) → IsEmptySketch s) → (IsTrue (shows B) → IsEmptySketch u) → IsVerdictBy shows (StandsIn s) (StandsIn u) Yes
   yes_apart es eu k t (A, shown, h) = nothing_stands s k t (es shown (day_part k t)) h.0
   yes_apart es eu k t (B, shown, h) = nothing_stands u k t (eu shown (day_part k t)) h.0

@@ -66,7 +66,7 @@ every_day shows s u from last to n e window ns nu ls lu fl is walked d =
     by_lt_z {P = P} d from (λ before. none_before_first shows s u e from ns nu d before)
     (λ after. each_later_day shows s u from last to n window ls lu fl is walked d after)
 
--- the two are equal on every later day, where a walk to a window's end shows no difference
+-- the two are equal on every later day, if a walk to a window's end shows no difference
 pub equal_from : (s u : Sketch) (from last to : ℤ) (n : ℕ) → IsValidSketch s → IsValidSketch u → IsWindow (shown_by Equal) s u n → s.settled ≤ℤ last
     → u.settled ≤ℤ last → from ≤ℤ last → to ≡ last +ℤ pos n → ShowsNoneWithin (shown_by Equal) s u from to → AgreeFrom (times_on s) (times_on u) from
 equal_from s u from last to n vs vu window ls lu fl is walked d after =
@@ -140,7 +140,7 @@ none_joined shows s u from day k n to e et before more d low high =
     let P : Type 0 = ShowsNone shows (times_on s d) (times_on u d) in
     by_lt_z {P = P} d day (λ l. before d low (omega (arith, ints))) (λ g. more d g (omega (arith, ints)))
 
--- the first day from one on, where no day before that one shows it
+-- the first day from one on, if no day before that one shows it
 pub first_joined : (shows : Side → Bool) (s u : Sketch) (from from' day found : ℤ) (k x : ℕ) (side : Side) → from' ≡ from → day ≡ from' +ℤ pos k
     → ShowsNoneWithin shows s u from' (from' +ℤ pos k) → IsFirstDayShown shows s u day found x side → IsFirstDayShown shows s u from found x side
 first_joined shows s u from from' day found k x side ef e before first = record {

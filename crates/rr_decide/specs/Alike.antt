@@ -34,18 +34,18 @@ abbrev pub IsNextAlike : Option ℕ → Option ℕ → AlikeNumbers → AlikeNum
 IsNextAlike a b old new =
     (k : ℕ) → new.from ≤ k → k < new.end → ((old.from ≤ k) × (k < old.end)) ⊎ ((a ≡ Some k) × (b ≡ Some k))
 
--- the first second in which the days differ; else they are alike, and so are the sets of these numbers
+-- the first second in which the days differ; otherwise they are alike, and so are the sets of these numbers
 abbrev pub IsCompared : List (List ℕ) → List (List ℕ) → Sketch → Sketch → ℤ → Comparison → Type 0
 IsCompared sets_a sets_b s u day (Unlike r) = IsShownOn (shown_by Equal) s u day r
 IsCompared sets_a sets_b s u day (Alike numbers) = ShowsNone (shown_by Equal) (times_on s day) (times_on u day) × AreAlike sets_a sets_b numbers
 
--- the first day from this one on that differs, by its first second; else the n days are alike, and so are the sets of these numbers
+-- the first day from this one on that differs, by its first second; otherwise the n days are alike, and so are the sets of these numbers
 abbrev pub AreCompared : List (List ℕ) → List (List ℕ) → Sketch → Sketch → ℤ → ℕ → Comparison → Type 0
 AreCompared sets_a sets_b s u day n (Unlike r) =
     IsFirstFrom Equal s u day r × (r.day ≤ℤ latest_taken)
 AreCompared sets_a sets_b s u day n (Alike numbers) = ShowsNoneFor Equal s u day n × AreAlike sets_a sets_b numbers
 
--- the first day from this one on that differs, by its first second; else some days, at most `most`, are alike, and so are the sets
+-- the first day from this one on that differs, by its first second; otherwise some days, at most `most`, are alike, and so are the sets
 -- of these numbers
 abbrev pub IsRun : List (List ℕ) → List (List ℕ) → Sketch → Sketch → ℤ → ℕ → Run → Type 0
 IsRun sets_a sets_b s u day most (Differs r) =

@@ -6,7 +6,7 @@ use Rattle.rr_model.specs.declared.sketch.Sketch.{Sketch}
 use Rattle.rr_decide.specs.Question.{HasNoneBefore, ShareNothing}
 use Rattle.rr_decide.specs.Reading.{IsFirstOfBoth}
 
--- the sketch is of this kind, and this is its first occupied day; none where no day is
+-- the sketch is of this kind, and this is its first occupied day; none if no day is
 abbrev pub Begins : Sketch → Kind → Option ℤ → Type 0
 Begins s kind first = (kind ≡ s.kind) × IsFirstDay s first
 
@@ -18,7 +18,7 @@ pub record BeginOn (s u : Sketch) (from : ℤ) : Type 0 where
   pub some : IsEmptySketch s ⊎ IsEmptySketch u → ⊥
   pub first : IsFirstOfBoth s u from
 
--- any two sketches of these kinds and first occupied days begin on this day; where it is none they have nothing in common
+-- any two sketches of these kinds and first occupied days begin on this day; if it is none they have nothing in common
 abbrev pub AreBegun : Kind → Option ℤ → Kind → Option ℤ → Option ℤ → Type 0
 AreBegun kind_a first_a kind_b first_b from =
     (s u : Sketch) → Begins s kind_a first_a → Begins u kind_b first_b → MatchOption from (ShareNothing s u) (BeginOn s u)

@@ -13,7 +13,7 @@ use Rattle.rr_model.specs.declared.question.Question.{Question}
 abbrev pub IsShownOn : (Side → Bool) → Sketch → Sketch → ℤ → Shown → Type 0
 IsShownOn shows s u day r = (r.day ≡ day) × IsFirstShown shows (times_on s day) (times_on u day) r.second r.side
 
--- the first second of the day that shows it; none where no second does
+-- the first second of the day that shows it; none if no second does
 abbrev pub IsFirstOn : (Side → Bool) → Sketch → Sketch → ℤ → Option Shown → Type 0
 IsFirstOn shows s u day None = ShowsNone shows (times_on s day) (times_on u day)
 IsFirstOn shows s u day (Some r) = IsShownOn shows s u day r

@@ -25,15 +25,15 @@ abbrev pub NamesUpToMaxDay : Verdict → Type 0
 NamesUpToMaxDay Yes = ⊤
 NamesUpToMaxDay (No kind at side) = IsUpToMaxDay kind at
 
--- the first occurrence of the sketch; none where it has none
+-- the first occurrence of the sketch; none if it has none
 abbrev pub IsFirstOrNone : Sketch → Option Occurrence → Type 0
 IsFirstOrNone s first = MatchOption first (IsEmptySketch s) (λ o. IsFirstOccurrence s o.kind o.at)
 
--- the first occurrence of the sketch where it is asked for; none where it is not, or where the sketch is empty
+-- the first occurrence of the sketch if it is asked for; none if it is not, or if the sketch is empty
 abbrev pub IsFirstIf : Bool → Sketch → Option Occurrence → Type 0
 IsFirstIf asked s first = MatchOption first (IsTrue asked → IsEmptySketch s) (λ o. IsTrue asked × IsFirstOccurrence s o.kind o.at)
 
--- the verdict on any two sketches with nothing in common that have these first occurrences, each given where an occurrence of its side shows no
+-- the verdict on any two sketches with nothing in common that have these first occurrences, each given if an occurrence of its side shows no
 abbrev pub IsVerdictApart : Option Occurrence → Option Occurrence → Verdict → Type 0
 IsVerdictApart of_a of_b verdict =
     (shows : Side → Bool) (s u : Sketch) → ShareNothing s u → IsFirstIf (shows A) s of_a → IsFirstIf (shows B) u of_b

@@ -42,7 +42,7 @@ shown_by Disjoint Both = true
 abbrev pub IsShown : (Side → Bool) → Type 0 → Type 0 → Type 0
 IsShown shows P Q = (side : Side) × IsTrue (shows side) × HoldsOn side P Q
 
--- Yes where no occurrence lies on a side for which `shows` is true; else No with the first such occurrence
+-- Yes if no occurrence lies on a side for which `shows` is true; otherwise No with the first such occurrence
 abbrev pub IsVerdictBy : (Side → Bool) → Occurrences → Occurrences → Verdict → Type 0
 IsVerdictBy shows P Q Yes = (k : Kind) (t : ℤ) → IsShown shows (P k t) (Q k t) → ⊥
 IsVerdictBy shows P Q (No k t side) =
@@ -58,7 +58,7 @@ IsVerdictOn question s u verdict = IsVerdictBy (shown_by question) (StandsIn s) 
 abbrev pub ShowsNone : (Side → Bool) → List ℕ → List ℕ → Type 0
 ShowsNone shows xs ys = (w : ℕ) → IsShown shows (Contains xs w) (Contains ys w) → ⊥
 
--- for each index below n: no second of two lists lies on a side for which `shows` is true, where the first list is empty at an
+-- for each index below n: no second of two lists lies on a side for which `shows` is true, if the first list is empty at an
 -- index below a, and the second at an index below b
 abbrev pub ShowsNoneBelow : (Side → Bool) → ℕ → ℕ → ℕ → Type 0
 ShowsNoneBelow shows a b n = (k : ℕ) → k < n → (xs ys : List ℕ) → (k < a → xs ≡ []) → (k < b → ys ≡ []) → ShowsNone shows xs ys
@@ -69,7 +69,7 @@ pub record IsFirstShown (shows : Side → Bool) (xs ys : List ℕ) (second : ℕ
   pub holds : HoldsOn side (Contains xs second) (Contains ys second)
   pub none_below : (w : ℕ) → w < second → IsShown shows (Contains xs w) (Contains ys w) → ⊥
 
--- the first second of the two lists that shows a no to the question, with its side; None where no second does
+-- the first second of the two lists that shows a no to the question, with its side; None if no second does
 abbrev pub IsFirstSecondShown : Question → List ℕ → List ℕ → Option (ℕ × Side) → Type 0
 IsFirstSecondShown question xs ys first =
     MatchOption first (ShowsNone (shown_by question) xs ys) (λ r. IsFirstShown (shown_by question) xs ys r.0 r.1)
@@ -90,7 +90,7 @@ pub record IsFirstDayShown (shows : Side → Bool) (s u : Sketch) (from day : �
   pub none_earlier : ShowsNoneWithin shows s u from day
   pub on_day : IsFirstShown shows (times_on s day) (times_on u day) second side
 
--- where n days in a row past both settled days show nothing, no later day does
+-- if n days in a row past both settled days show nothing, no later day does
 abbrev pub IsWindow : (Side → Bool) → Sketch → Sketch → ℕ → Type 0
 IsWindow shows s u n =
     (q : ℤ) → s.settled ≤ℤ q → u.settled ≤ℤ q → ShowsNoneWithin shows s u q (q +ℤ pos n) → (d : ℤ) → q ≤ℤ d → ShowsNone shows (times_on s d) (times_on u d)

@@ -17,7 +17,7 @@ IsAlike (Some below) a b = (a ≡ b) × (a < below)
 abbrev pub ShowNothing : (Side → Bool) → List (List ℕ) → List (List ℕ) → ℕ → ℕ → Type 0
 ShowNothing shows sets_a sets_b a b = (xs ys : List ℕ) → slice_get sets_a a ≡ Some xs → slice_get sets_b b ≡ Some ys → ShowsNone shows xs ys
 
--- the sets of the two numbers show nothing, where both are there
+-- the sets of the two numbers show nothing, if both are there
 abbrev pub ShowNothingTogether : (Side → Bool) → List (List ℕ) → List (List ℕ) → Option ℕ → Option ℕ → Type 0
 ShowNothingTogether shows sets_a sets_b a b = (x y : ℕ) → a ≡ Some x → b ≡ Some y → ShowNothing shows sets_a sets_b x y
 

@@ -18,15 +18,16 @@ use rr_word::{DaySeq, Pair, seconds};
 /// A second of a day that shows that the answer is no.
 #[derive(Clone, Copy)]
 pub struct Shown {
-    /// The day number.
+    /// The day, in days since 1970-01-01.
     pub day: i64,
-    /// The second of the day.
+    /// The second of the day, below 86,400; 0 for a date.
     pub second: u32,
-    /// Which sequences have it.
+    /// Which of the two sequences have an occurrence there.
     pub side: Side,
 }
 
-/// The first of `days` days that shows that the answer is no.
+/// The first second that shows that the answer is no, in the first of `days` days from `from` on, in days since
+/// 1970-01-01; `None` if those days show nothing.
 pub fn first_day_shown<A: DaySeq, B: DaySeq>(
     question: Question,
     a: &A,
@@ -61,8 +62,8 @@ enum Look {
     Quiet(u64),
 }
 
-// What the days from one on show, of at most `most`: those on which the sets can't show anything since they are free, where these are
-// many, or else the first day and those after it whose numbers are remembered.
+// What the days from one on show, of at most `most`: those on which the sets can't show anything since they are free,
+// if these are many; otherwise the first day and those after it whose numbers are remembered.
 fn look_from<A: DaySeq, B: DaySeq>(
     question: Question,
     a: &A,
@@ -93,7 +94,7 @@ fn look_from<A: DaySeq, B: DaySeq>(
     }
 }
 
-// For how many days in a row from one on it is known that none is occupied, where that is asked; else 0, which tells nothing.
+// For how many days in a row from one on it is known that none is occupied, if that is asked; otherwise 0, which tells nothing.
 fn free_days_if<S: DaySeq>(asked: bool, seq: &S, day: i64) -> u64
     requires low { earliest_taken ≤ℤ day }
     requires high { day ≤ℤ latest_taken }
@@ -130,7 +131,7 @@ fn look_at_day<A: DaySeq, B: DaySeq>(
     }
 }
 
-// Remembers the numbers of a day that shows nothing, where both are there.
+// Remembers the numbers of a day that shows nothing, if both are there.
 fn remember<A: DaySeq, B: DaySeq>(
     question: Question,
     a: &A,
@@ -173,8 +174,8 @@ fn alike_after<A: DaySeq, B: DaySeq>(
     }
 }
 
-// The number after this one, where each set from `below` on up to this one is equal to that of the same number in the other
-// sequence; else none.
+// The number after this one, if each set from `below` on up to this one is equal to that of the same number in the other
+// sequence; otherwise none.
 fn alike_up_to<A: DaySeq, B: DaySeq>(a: &A, b: &B, below: u32, number: u32) -> Option<u32>
     requires first { number < length (A.sets a.now) }
     requires second { number < length (B.sets b.now) }
@@ -214,7 +215,7 @@ fn shown_on_day<A: DaySeq, B: DaySeq>(
 }
 
 /// The lesser of the first occupied days of two sequences, of which these are the kinds and the first days.
-/// None where they are of two kinds or one of them is empty, so that they have nothing in common.
+/// None if they are of two kinds or one of them is empty, so that they have nothing in common.
 pub fn first_of_both(
     kind_a: Kind,
     first_a: Option<i64>,

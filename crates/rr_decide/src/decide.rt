@@ -16,11 +16,11 @@ use rr_model::{MAX_CYCLE_DAYS, Question, Verdict};
 use rr_num::lcm_within;
 use rr_word::{DaySeq, common_cycle};
 
-/// Whether two sets have equal occurrences for all years to come; else the first that exactly one of them has.
+/// Whether two sets have equal occurrences for all years to come; otherwise the first that exactly one of them has.
 ///
 /// A no names an occurrence up to the greatest day, 3,000,000,000,000.
 /// It reads no more days of each than there are from the first occupied day of both to the later settled day,
-/// and then both periods together, or the least common multiple of the periods where that is less. It takes no memory.
+/// and then both periods together, or the least common multiple of the periods if that is less. It takes no memory.
 pub fn equal<A: DaySeq, B: DaySeq>(a: &A, b: &B) -> Verdict
     ensures verdict { IsEqualVerdict
         (StandsIn (A.sketch a.now)) (StandsIn (B.sketch b.now)) result }
@@ -29,7 +29,7 @@ pub fn equal<A: DaySeq, B: DaySeq>(a: &A, b: &B) -> Verdict
     verdict_by_walk(Question::Equal, a, b, equal_days(a.period(), b.period()))
 }
 
-/// Whether each occurrence of the first set is one of the second; else the first that the second lacks, on side A.
+/// Whether each occurrence of the first set is one of the second; otherwise the first that the second lacks, on side A.
 ///
 /// The least common multiple of the periods must be at most `MAX_CYCLE_DAYS`.
 /// A no names an occurrence up to the greatest day, 3,000,000,000,000.
@@ -44,7 +44,7 @@ pub fn within<A: DaySeq, B: DaySeq>(a: &A, b: &B) -> Verdict
     verdict_by_walk(Question::Within, a, b, common_cycle(a.period(), b.period()))
 }
 
-/// Whether two sets have no occurrence in common; else the first, on side Both.
+/// Whether two sets have no occurrence in common; otherwise the first, on side Both.
 ///
 /// The least common multiple of the periods must be at most `MAX_CYCLE_DAYS`.
 /// A no names an occurrence up to the greatest day, 3,000,000,000,000.
@@ -85,7 +85,7 @@ pub fn verdict<A: DaySeq, B: DaySeq>(question: Question, a: &A, b: &B) -> Verdic
 /// they are equal from that day on for ever.
 ///
 /// The day is one from 1,000,000,000 before 1970-01-01 to 2,800,000,000,000 after it. It reads no more days of each than there are
-/// from there to the later settled day, and then both periods together, or the least common multiple of the periods where that is
+/// from there to the later settled day, and then both periods together, or the least common multiple of the periods if that is
 /// less. It takes no memory.
 pub fn next_difference<A: DaySeq, B: DaySeq>(a: &A, b: &B, from: i64) -> Option<Shown>
     requires low { earliest_near ≤ℤ from }

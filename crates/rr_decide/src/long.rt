@@ -22,13 +22,13 @@ use rr_steps::Steps;
 use rr_word::{Counted, DaySeq, days_between};
 use std::sync::ledger::Ledger;
 
-/// Whether two sets have equal occurrences for all years to come, whatever their common cycle is; else the first
+/// Whether two sets have equal occurrences for all years to come, whatever their common cycle is; otherwise the first
 /// occurrence that exactly one of them has.
 ///
-/// Where `equal` walks a sequence that anyone reads, this reads two that are counted, so that its contract says in how many
-/// steps: at most as many as both sequences together have days from the lesser first occupied day to both periods past the
-/// later settled day, and two more; at most two if one is empty. A step tells one day, or a stretch of days none of which is
-/// occupied. A no names an occurrence up to the greatest day, 3,000,000,000,000. It takes no memory.
+/// Its contract says in how many steps it reads: at most as many as both sequences together have days from the lesser
+/// first occupied day to both periods past the later settled day, and two more; at most two if one is empty. A step
+/// tells one day, or a stretch of days none of which is occupied. So both sequences are counted ones, and those of
+/// `equal` are not. A no names an occurrence up to the greatest day, 3,000,000,000,000. It takes no memory.
 pub fn equal_long<A: DaySeq + Drop, B: DaySeq + Drop, L: Ledger>(
     a: &Counted<A, L>,
     b: &Counted<B, L>,
@@ -129,7 +129,7 @@ fn first_day_unlike<A: DaySeq + Drop, B: DaySeq + Drop, L: Ledger>(
     None
 }
 
-// What comes out where days in a row are compared.
+// What comes out if days in a row are compared.
 enum Run {
     // The first second in which the first of them that differ do.
     Differs(Shown),
@@ -137,8 +137,8 @@ enum Run {
     Agrees(u64, AlikeNumbers),
 }
 
-// Days from one on compared, of at most `most`: those that are free, or else the first day and those after it whose numbers are
-// kept in a row. Where a sequence is seen to be free its day is not read once more.
+// Days from one on compared, of at most `most`: those that are free; otherwise the first day and those after it whose
+// numbers are kept in a row. If a sequence is seen to be free its day is not read once more.
 fn compare_from<A: DaySeq + Drop, B: DaySeq + Drop, L: Ledger>(
     a: &Counted<A, L>,
     b: &Counted<B, L>,
@@ -233,7 +233,7 @@ fn compare_later<A: DaySeq + Drop, B: DaySeq + Drop, L: Ledger>(
 
 // The days after a day on which both are alike, compared by two rows of their numbers.
 //
-// Whole blocks of days are compared at once, and day by day only where a block has another pair of numbers.
+// Whole blocks of days are compared at once, and day by day only if a block has another pair of numbers.
 fn compare_numbers<A: DaySeq + Drop, B: DaySeq + Drop, L: Ledger>(
     a: &Counted<A, L>,
     b: &Counted<B, L>,
@@ -268,7 +268,7 @@ fn compare_numbers<A: DaySeq + Drop, B: DaySeq + Drop, L: Ledger>(
     Comparison::Alike(alike)
 }
 
-// The days at indexes of two rows of numbers compared one by one, where both are alike on each day before them.
+// The days at indexes of two rows of numbers compared one by one, if both are alike on each day before them.
 fn compare_each<A: DaySeq + Drop, B: DaySeq + Drop, L: Ledger>(
     a: &Counted<A, L>,
     b: &Counted<B, L>,
@@ -340,7 +340,7 @@ impl AlikeNumbers {
     }
 
     // Whether two rows have one number of the stretch at each index of the block that begins at one. Its first index is asked alone,
-    // so that little is lost where each day has another number.
+    // so that little is lost if each day has another number.
     fn has_block(self, xs: &[u32], ys: &[u32], from: usize) -> bool
         requires first { from + 64 ≤ length xs.now }
         requires second { from + 64 ≤ length ys.now }
@@ -398,7 +398,7 @@ fn greatest_of_equal(xs: &[u32], ys: &[u32], from: usize) -> Option<u32>
     if equal { Some(greatest) } else { None }
 }
 
-// What comes out where days are compared.
+// What comes out if days are compared.
 enum Comparison {
     // The first second in which they differ.
     Unlike(Shown),
@@ -408,7 +408,7 @@ enum Comparison {
 
 // Two days compared by the numbers of their sets.
 //
-// Distinct sets have distinct numbers. Where numbers are given in the order of days, equal sequences have equal numbers, so
+// Distinct sets have distinct numbers. If numbers are given in the order of days, equal sequences have equal numbers, so
 // each set is compared once, at its first day, and any later day by its number.
 fn compare_days<A: DaySeq + Drop, B: DaySeq + Drop, L: Ledger>(
     a: &Counted<A, L>,
@@ -443,7 +443,8 @@ fn have_one_of(a: Option<u32>, b: Option<u32>, alike: AlikeNumbers) -> bool
     }
 }
 
-// The numbers under which sets are alike after a day on which they are: one number more, where it comes next.
+// The numbers under which sets are alike after a day on which they are: those before, and the day's own number if it
+// comes next.
 fn next_alike(a: Option<u32>, b: Option<u32>, alike: AlikeNumbers) -> AlikeNumbers
     ensures { IsNextAlike a b alike result }
 {
@@ -453,7 +454,7 @@ fn next_alike(a: Option<u32>, b: Option<u32>, alike: AlikeNumbers) -> AlikeNumbe
     }
 }
 
-// The numbers with one more, where it comes next to them or they are none.
+// The numbers with a further one, if it comes next to them or they are none.
 fn with_number(alike: AlikeNumbers, number: u32) -> AlikeNumbers
     ensures { (k : ℕ) → result.from ≤ k → k < result.end
         → ((alike.from ≤ k) × (k < alike.end)) ⊎ (k ≡ number) }
@@ -495,7 +496,7 @@ fn unlike_on_day<A: DaySeq + Drop, B: DaySeq + Drop, L: Ledger>(
     }
 }
 
-// The seconds of the time set of this number; none where there is no number.
+// The seconds of the time set of this number; none if there is no number.
 fn seconds_of<S: DaySeq + Drop, L: Ledger>(seq: &Counted<S, L>, number: Option<u32>) -> &[u32]
     requires { IfSome number (λ n. n < length (S.sets seq.now)) }
     ensures { MatchOption number (result.now ≡ [])

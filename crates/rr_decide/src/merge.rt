@@ -7,14 +7,14 @@ use crate::question::is_shown_by;
 use rr_model::{Question, Side};
 use rr_word::next_second;
 
-/// Whether two lists are equal.
+/// Whether two lists have the same numbers in the same order.
 pub fn are_equal(xs: &[u32], ys: &[u32]) -> bool
     ensures { IsTrue result ↔ (xs.now ≡ ys.now) }
 {
     xs == ys
 }
 
-// Whether two lists are equal, where a second of both shows nothing.
+// Whether two lists are equal, if a second of both shows nothing.
 fn are_alike(question: Question, xs: &[u32], ys: &[u32]) -> bool
     ensures { IsTrue result → ShowsNone (shown_by question) xs.now ys.now }
 {
@@ -23,7 +23,7 @@ fn are_alike(question: Question, xs: &[u32], ys: &[u32]) -> bool
 
 /// The first second of two rising lists that shows that the answer is no, and its side.
 ///
-/// Equal lists are compared whole, where what both have shows nothing.
+/// Equal lists are compared whole, if what both have shows nothing.
 pub fn first_shown(question: Question, xs: &[u32], ys: &[u32]) -> Option<(u32, Side)>
     requires xs { Rises nat_lt xs.now }
     requires ys { Rises nat_lt ys.now }

@@ -8,17 +8,17 @@ ghost use Rattle.rr_decide.specs.Occurrence.{IsFirstOrNone, IsNearOccurrence, Is
 use rr_model::{Kind, SECONDS_OF_DAY, Side, Verdict, moment_at};
 use rr_word::DaySeq;
 
-/// A date or a moment.
+/// An occurrence of a set: a date or a moment.
 #[derive(Clone, Copy)]
 pub struct Occurrence {
     /// Whether it is a date or a moment.
     pub kind: Kind,
-    /// Its day number, or its second number.
+    /// Days since 1970-01-01 of a date, seconds since its midnight of a moment.
     pub at: i64,
 }
 
 impl Occurrence {
-    /// The occurrence at a second of a day.
+    /// The occurrence at a second of a day, which is given in days since 1970-01-01; the second of a date is 0.
     pub fn on_day(kind: Kind, day: i64, second: u32) -> Self
         requires low { earliest_taken ≤ℤ day }
         requires high { day ≤ℤ latest_taken }
@@ -56,7 +56,7 @@ impl Occurrence {
     }
 }
 
-/// The first occurrence of a sequence.
+/// The first occurrence of a sequence, `None` if it is empty. It lies not after the greatest day, 3,000,000,000,000.
 pub fn first_occurrence<S: DaySeq>(seq: &S) -> Option<Occurrence>
     ensures first { IsFirstOrNone (S.sketch seq.now) result }
     ensures near { IfSome result IsNearOccurrence }

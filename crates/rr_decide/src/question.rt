@@ -18,7 +18,7 @@ pub(crate) fn is_shown_by(question: Question, side: Side) -> bool
     }
 }
 
-/// Whether it matters on how many days the second set has no occurrence, where the first has none on `of_a` days.
+/// Whether it matters on how many days the second set has no occurrence, if the first has none on `of_a` days.
 pub(crate) fn asks_second(question: Question, of_a: u64) -> bool {
     match question {
         Question::Equal => of_a >= FREE_DAYS,
@@ -27,7 +27,7 @@ pub(crate) fn asks_second(question: Question, of_a: u64) -> bool {
     }
 }
 
-/// On how many days no occurrence shows that the answer is no, where the first set has none on `a` days and the second none
+/// On how many days no occurrence shows that the answer is no, if the first set has none on `a` days and the second none
 /// on `b`.
 pub(crate) fn days_without(question: Question, a: u64, b: u64) -> u64
     ensures { ShowsNoneBelow (shown_by question) a b result }

@@ -12,7 +12,7 @@ const BLOCK: usize = 16;
 // How many indexes of two rows are compared with one another at once.
 const ROW: usize = 512;
 
-// The last two pairs.
+// The last two pairs that were put.
 #[derive(Clone, Copy)]
 struct Recent {
     // The last pair.
@@ -73,7 +73,7 @@ impl Recent {
 /// The table is there once more than two pairs were put, so that few pairs cost no clearing of it.
 #[derive(Drop)]
 pub struct Quiet {
-    // Below this number a set and the one of the same number in the other sequence show nothing; none where that is not asked for
+    // Below this number a set and the one of the same number in the other sequence show nothing; none if that is not asked for
     // any more.
     alike: Option<u32>,
     recent: Option<Recent>,
@@ -81,7 +81,7 @@ pub struct Quiet {
 }
 
 impl Quiet {
-    /// No pairs.
+    /// Remembers no pair yet; sets of one number are not known to show nothing.
     pub fn new() -> Quiet
         ensures { (a b : ℕ) → HasPair result a b → ⊥ }
     {
@@ -92,7 +92,7 @@ impl Quiet {
         }
     }
 
-    /// Below which number a set and the one of the same number in the other sequence show nothing; none where that is not asked
+    /// Below which number a set and the one of the same number in the other sequence show nothing; none if that is not asked
     /// for any more.
     pub fn alike_bound(&self) -> Option<u32>
         ensures { result ≡ self.now.alike }
@@ -154,7 +154,7 @@ impl Quiet {
     }
 
     /// Remembers a pair, and that below `alike` sets of one number show nothing: all pairs of one number are then remembered by that
-    /// alone. None where that is not asked for any more, and then the pair is put in place of the last one of its place.
+    /// alone. None if that is not asked for any more, and then the pair is put in place of the last one of its place.
     pub fn learn(&mut self, pair: Pair, alike: Option<u32>)
         ensures { (a b : ℕ) → HasPair self.new a b
             → HasPair self.old a b ⊎ (IsPair pair a b ⊎ IsAlike alike a b) }
@@ -174,7 +174,7 @@ impl Quiet {
         self.recent = Some(after(self.recent, pair));
     }
 
-    // Makes the table, where it is not there yet and two pairs are, and puts these into it.
+    // Makes the table, if it is not there yet and two pairs are, and puts these into it.
     fn make_table(&mut self)
         ensures { WereThere self.old self.new }
     {
@@ -190,7 +190,7 @@ impl Quiet {
         }
     }
 
-    // Puts a pair into the table, where it is there.
+    // Puts a pair into the table, if it is there.
     fn place(&mut self, pair: Pair)
         ensures recent { self.new.recent ≡ self.old.recent }
         ensures alike { self.new.alike ≡ self.old.alike }
@@ -204,8 +204,8 @@ impl Quiet {
 
     /// At how many indexes from the first one on, of at most `most`, two rows have a remembered pair.
     ///
-    /// Where sets of one number show nothing, whole stretches of both rows are compared with one another; else blocks of indexes with
-    /// the last two pairs at a time, and index by index only where a block has another.
+    /// If sets of one number show nothing, whole stretches of both rows are compared with one another; otherwise blocks of indexes with
+    /// the last two pairs at a time, and index by index only if a block has another.
     pub fn count(&mut self, xs: &[u32], ys: &[u32], most: usize) -> usize
         ensures first { result ≤ length xs.now }
         ensures second { result ≤ length ys.now }
@@ -232,7 +232,7 @@ impl Quiet {
         from
     }
 
-    // The first index from one on, and before an end, at which two rows have no remembered pair; the end where there is none.
+    // The first index from one on, and before an end, at which two rows have no remembered pair; the end if there is none.
     fn count_from(&mut self, xs: &[u32], ys: &[u32], from: usize, end: usize) -> usize
         requires first { end ≤ length xs.now }
         requires second { end ≤ length ys.now }
@@ -324,7 +324,7 @@ fn are_equal_below(xs: &[u32], ys: &[u32], from: usize, to: usize, below: u32) -
     equal && greatest < below
 }
 
-// The last two pairs after one more.
+// The last two pairs after a further pair was put.
 fn after(recent: Option<Recent>, pair: Pair) -> Recent
     ensures { (a b : ℕ) → IsRecent (Some result) a b → IsRecent recent a b ⊎ IsPair pair a b }
 {

@@ -10,7 +10,7 @@ use crate::question::is_shown_by;
 use rr_model::{Question, Side, Verdict};
 use rr_word::{DaySeq, days_between};
 
-/// The verdict, where `window` days past both settled days tell of all later days.
+/// The verdict, if `window` days past both settled days tell of all later days.
 pub fn verdict_by_walk<A: DaySeq, B: DaySeq>(
     question: Question,
     a: &A,
@@ -53,7 +53,7 @@ fn of_one_kind<A: DaySeq, B: DaySeq>(
     }
 }
 
-// The first occurrence, where it is asked for.
+// The first occurrence, if it is asked for.
 fn first_if<S: DaySeq>(asked: bool, seq: &S) -> Option<Occurrence>
     ensures first { IsFirstIf asked (S.sketch seq.now) result }
     ensures near { IfSome result IsNearOccurrence }
@@ -73,7 +73,7 @@ fn verdict_apart<A: DaySeq, B: DaySeq>(question: Question, a: &A, b: &B) -> Verd
     verdict_of_lesser(first_if(shows_a, a), first_if(shows_b, b))
 }
 
-/// The verdict by the lesser of two occurrences, that on side A where the first is it, else that on side B; yes without any.
+/// The verdict by the lesser of two occurrences: on side A if the first is it, otherwise on side B; yes without any.
 pub fn verdict_of_lesser(of_a: Option<Occurrence>, of_b: Option<Occurrence>) -> Verdict
     requires near_a { IfSome of_a IsNearOccurrence }
     requires near_b { IfSome of_b IsNearOccurrence }

@@ -34,7 +34,7 @@ pub record AreAllDifferences (P Q : Occurrences) (ds : List Difference) : Type 0
   pub differ : All (IsDifference P Q) ds
   pub each : (d : Difference) → IsDifference P Q d → Contains ds d
 
--- All the differences are the first, and those after it: so many, at most 9,999, of which this is the last.
+-- All the differences are the first, and those after it: `count`, at most 9,999, of which this is the last.
 pub record AreUntil (P Q : Occurrences) (count : ℕ) (last : Difference) : Type 0 where
   pub first : Difference
   pub between : List Difference

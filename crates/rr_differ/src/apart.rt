@@ -47,7 +47,8 @@ fn lesser(a: Option<Difference>, b: Option<Difference>) -> Option<Difference>
     }
 }
 
-/// The first occurrence of a sequence from this number on, as a difference on its side.
+/// The first occurrence of a sequence from a number on, in days or seconds since 1970-01-01, as a difference on its
+/// side; `None` if there is none.
 pub fn one_from<S: DaySeq>(seq: &S, side: Side, at: i64) -> Option<Difference>
     requires low { earliest_near ≤ℤ day_part (S.sketch seq.now).kind at }
     requires high { day_part (S.sketch seq.now).kind at ≤ℤ pos 2_400_000_000_000 }
@@ -79,7 +80,8 @@ fn first_of<S: DaySeq>(seq: &S, side: Side) -> Option<Difference>
     }
 }
 
-/// The first differences of two sequences of two kinds.
+/// The first `count` differences of two sequences of two kinds, in their order, or all if there are fewer. All lie up
+/// to the greatest day, 3,000,000,000,000.
 pub fn differences_apart<A: DaySeq, B: DaySeq>(
     alloc: Global,
     a: &A,

@@ -6,7 +6,7 @@ use rr_model::{Kind, Side};
 pub struct Difference {
     /// Whether it is a date or a moment.
     pub kind: Kind,
-    /// Its day number, or its second number.
+    /// Days since 1970-01-01 of a date, seconds since its midnight of a moment.
     pub at: i64,
     /// Which of the two has it.
     pub side: Side,

@@ -22,16 +22,16 @@ pub const MOST_FURTHER: usize = 9_999;
 pub enum Further {
     /// No other one: there is one at most.
     NoMore,
-    /// So many, and then no more.
+    /// `count` more come, and then none.
     Until {
         /// How many come after the first, from 1 to `MOST_FURTHER`.
         count: usize,
-        /// The last of them.
+        /// The last of them, which comes after all others.
         last: Difference,
     },
     /// They end, but more than `MOST_FURTHER` come after the first.
     Many,
-    /// They never end.
+    /// They never end: the sets differ in what they repeat.
     ForEver,
 }
 

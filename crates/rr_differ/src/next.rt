@@ -23,7 +23,8 @@ fn first_after(xs: &[u32], ys: &[u32], from: u32) -> Option<(u32, Side)>
     first_shown(Question::Equal, of_a, of_b)
 }
 
-/// The first occurrence, from this number on, that exactly one of two sequences of one kind has.
+/// The first occurrence, from a number on, in days or seconds since 1970-01-01, that exactly one of two sequences of
+/// one kind has; `None` if they are equal from there on for ever.
 ///
 /// It reads the day of the number, and then no more days than `next_difference`. It takes no memory.
 pub fn next_from<A: DaySeq, B: DaySeq>(a: &A, b: &B, at: i64) -> Option<Difference>

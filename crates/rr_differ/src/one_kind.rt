@@ -61,7 +61,8 @@ fn differences_from<A: DaySeq, B: DaySeq>(
     Ok(found)
 }
 
-/// The first differences of two sequences of one kind.
+/// The first `count` differences of two sequences of one kind, in their order, or all if there are fewer. All lie up to
+/// the greatest day, 3,000,000,000,000.
 pub fn differences_of_one_kind<A: DaySeq, B: DaySeq>(
     alloc: Global,
     a: &A,

@@ -1,4 +1,4 @@
--- A rule of a frequency, an interval and a week start alone chooses its own start, where that is a date.
+-- A rule of a frequency, an interval and a week start alone chooses its own start, if that is a date.
 use Rattle.std.proofs.Common.{◌≡◌, ℕ, ◌≤◌, ◌%◌, Bool, true, false, ◌&&◌, ◌||◌, ◌==◌, [], ◌∷◌, ℤ, pos, ◌-ℤ◌, refl, ap, arith}
 use Rattle.std.proofs.lemmas.Int.{ints}
 use Rattle.std.proofs.lemmas.Bool.Decides.{nat_tests}

@@ -1,7 +1,7 @@
 -- How many members of a list meet a condition, and how many pairs of them stand in a relation.
 use Rattle.std.specs.Prelude.{◌≡◌, ◌⊎◌, ℕ, ◌+◌, List, [], ◌∷◌}
 
--- one where the condition holds, else none
+-- one if the condition holds, otherwise none
 abbrev pub IsOneWhere : Type 0 → ℕ → Type 0
 IsOneWhere P n = (P × (n ≡ 1)) ⊎ ((P → ⊥) × (n ≡ 0))
 

@@ -4,8 +4,8 @@ use rr_model::Question;
 /// A question about a series and a later one.
 #[derive(Clone, Copy)]
 pub enum Asked {
-    /// Of the two in their order.
+    /// The question of the two in their order.
     Forth(Question),
-    /// Of the two exchanged.
+    /// The question of the two with the later one first.
     Back(Question),
 }

@@ -21,7 +21,7 @@ fn verdict_on(asked: Asked, a: &DrawnDays, b: &DrawnDays) -> Verdict
     }
 }
 
-// One where the verdict on two series is yes, else none.
+// One if the verdict on two series is yes, and otherwise none.
 fn one_where_yes(asked: Asked, a: &DrawnDays, b: &DrawnDays) -> u32
     ensures count { IsOneWhere (IsYes asked (stands a.now) (stands b.now)) result }
     ensures few { result ≤ 1 }
@@ -68,7 +68,7 @@ fn pairs_of(series: u32) -> u32
     series * (series - 1) / 2
 }
 
-/// The summary of 1 to 100 series.
+/// The summary of 1 to 100 series: the verdicts on all pairs of them, counted.
 pub fn summary_of(list: &[DrawnDays]) -> Summary
     requires some { 1 ≤ length list.now }
     requires few { length list.now ≤ 100 }

@@ -21,7 +21,7 @@ impl Draws {
         }
     }
 
-    // One draw, as a number below m.
+    // Draws a number below `m`.
     fn draw_below(&mut self, m: u32) -> u32
         requires { 1 ≤ m }
         ensures value { result ≡ draw_below m self.old.state }
@@ -33,7 +33,7 @@ impl Draws {
         self.state / 65_536 % m
     }
 
-    // A frequency.
+    // Draws a frequency: DAILY, WEEKLY, MONTHLY or YEARLY.
     fn freq(&mut self) -> Freq
         ensures value { result ≡ drawn_freq self.old.state }
         ensures state { self.new.state ≡ next_state self.old.state }
@@ -111,7 +111,7 @@ fn intervals(freq: Freq) -> u32
     }
 }
 
-// Monday or Sunday.
+// The first weekday of a week: Monday, 0, for a draw of 0, and otherwise Sunday, 6.
 fn week_start_of(draw: u32) -> u8
     ensures { result ≡ (if draw == 0 then 0 else 6) }
 {

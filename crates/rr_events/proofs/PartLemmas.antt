@@ -132,7 +132,7 @@ onto_first-blank : (b : ℕ) (bs line : List ℕ) (lines more : List (List ℕ))
 onto_first-blank b bs line [] more e = let same : line ≡ b ∷ [] = cc in ap begins_blank same
 onto_first-blank b bs line (first ∷ lines) more e = let same : line ≡ b ∷ first = cc in ap begins_blank same
 
--- a text begins with a blank where its first physical line does
+-- a text begins with a blank if its first physical line does
 pub first-blank : (text line : List ℕ) (more : List (List ℕ)) → physical_lines text ≡ line ∷ more → begins_blank line ≡ begins_blank text
 unfolding physical_lines
 first-blank [] line more e = absurd (cc)

@@ -1,4 +1,4 @@
--- A text is unfolded part by part, where each part begins with a line that continues none (RFC 5545, section 3.1).
+-- A text is unfolded part by part; each part begins with a line that continues none (RFC 5545, section 3.1).
 use Rattle.std.specs.Prelude.{◌≡◌, ℕ, ◌+◌, ◌<◌, ◌≤◌, ◌==◌, ◌&&◌, Bool, true, false, not, if◌then◌else◌, List, [], ◌∷◌, ◌++◌, length, drop}
 use Rattle.std.specs.List.{filter, onto_first}
 use Rattle.rr_model.specs.Rule.Validity.{is_absent}

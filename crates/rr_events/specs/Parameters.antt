@@ -29,7 +29,7 @@ parameter_pieces is_quoted [] = [] ∷ []
 parameter_pieces is_quoted (b ∷ bs) =
     if (b == 59) && not is_quoted then [] ∷ parameter_pieces false bs else onto_first b (parameter_pieces (is_quoted_after is_quoted b bs) bs)
 
--- the pieces of what follows a piece, where a semicolon ends it
+-- the pieces of what follows a piece, if a semicolon ends it
 abbrev pub later_pieces : Option (List ℕ) → List (List ℕ)
 later_pieces None = []
 later_pieces (Some rest) = parameter_pieces false rest
@@ -57,7 +57,7 @@ without_last_quote text = if bytes_eq (drop (length text - 1) text) (codes "\"")
 abbrev pub without_quotes : List ℕ → List ℕ
 without_quotes text = without_last_quote (without_first_quote text)
 
--- the value of a parameter, where it has this name
+-- the value of a parameter, if it has this name
 abbrev pub value_named : List ℕ → Option (List ℕ × List ℕ) → Option (List ℕ)
 value_named word None = None
 value_named word (Some (name, value)) = if str_eq_ignore_ascii_case name word then Some (without_quotes value) else None

@@ -10,7 +10,7 @@ use std::alloc::Global;
 /// The first unfolded line of a text, and what follows it.
 #[derive(Drop)]
 pub struct Cut<'a> {
-    /// The line.
+    /// The line, unfolded, with the number of its first physical line.
     pub line: Line,
     /// What follows its physical lines.
     pub after: &'a [u8],
@@ -18,7 +18,7 @@ pub struct Cut<'a> {
     pub next: u64,
 }
 
-// What the first physical line adds to the line before it, and what follows, where it continues that line.
+// What the first physical line adds to the line before it, and what follows, if it continues that line.
 fn take_continuation(text: &[u8]) -> Option<(&[u8], &[u8])>
     ensures { MatchOption result (begins_blank text.now ≡ false)
         (λ sides. IsContinued text.now sides.0.now sides.1.now) }
@@ -64,13 +64,13 @@ pub fn cut_line<'a>(alloc: Global, text: &'a [u8], number: u64) -> Result<Option
 /// What follows some lines of a text.
 #[derive(Clone, Copy)]
 pub struct Rest<'a> {
-    /// Its bytes.
+    /// Its bytes, a part of the text.
     pub text: &'a [u8],
     /// The number of its first physical line.
     pub number: u64,
 }
 
-// What follows the first line, where that is empty, ends with a line feed alone and is continued by no line.
+// What follows the first line, if that is empty, ends with a line feed alone and is continued by no line.
 fn after_empty_line(text: &[u8]) -> Option<&[u8]>
     ensures { IfSome result (λ after. IsEmptyLine text.now after.now) }
 {
@@ -84,7 +84,7 @@ fn after_empty_line(text: &[u8]) -> Option<&[u8]>
 }
 
 /// What follows the empty lines at the front of a text whose first physical line has this number. An empty line is passed over
-/// where it ends with a line feed alone and no line continues it.
+/// if it ends with a line feed alone and no line continues it.
 pub fn after_empty_lines(text: &[u8], number: u64) -> Rest
     requires { number + length text.now < 2 ^ 64 }
     ensures empty { AreEmpty number text.now result.text.now result.number }

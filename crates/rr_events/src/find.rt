@@ -10,7 +10,7 @@ use std::alloc::Global;
 /// A part of a text that begins and ends with unfolded lines.
 #[derive(Clone, Copy)]
 pub struct Piece<'a> {
-    /// Its bytes.
+    /// Its bytes, as they stand in the text.
     pub text: &'a [u8],
     /// The number of its first physical line in the whole text, from 1.
     pub first: u64,
@@ -58,7 +58,7 @@ impl<'a> Finder<'a> {
         Ok(())
     }
 
-    // One unfolded line more, which stands here, before the rest of the text.
+    // Takes in the next unfolded line, which stands here, before the rest of the text.
     fn step(
         &mut self,
         alloc: Global,
@@ -82,7 +82,7 @@ impl<'a> Finder<'a> {
 /// The events of a text without a byte order mark, in their order.
 ///
 /// `BadLine` comes for a BEGIN or END without a value, for an END that does not close the innermost open component, and,
-/// with the number of the text's last line, where the text ends within a component. Other components are passed over, and
+/// with the number of the text's last line, if the text ends within a component. Other components are passed over, and
 /// an event within one is an event; one within an event belongs to the outer one. It keeps 24 bytes for each event, and passes
 /// over empty lines in a nanosecond or two each.
 pub fn find_events<'a>(alloc: Global, text: &'a [u8]) -> Result<Vec<Piece<'a>>, Fault>

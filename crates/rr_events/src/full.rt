@@ -16,7 +16,7 @@ fn has_text(line: &Line) -> bool
     !line.text.as_slice().is_empty()
 }
 
-// Puts a line, where it has a byte.
+// Puts a line, if it has a byte.
 fn put_line(lines: &mut LineList, line: Line) -> Result<(), NoMemory>
     ensures { OnOk result (lines.new ≡ lines.old ++ filter has_text (line ∷ [])) }
 {

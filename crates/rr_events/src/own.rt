@@ -26,7 +26,7 @@ pub fn own_lines<'a>(alloc: Global, lines: &'a [Line]) -> Result<Vec<&'a Line>, 
     Ok(own)
 }
 
-/// The first line of this name.
+/// The first line of this name, in whatever case it is written; `None` if no line has it.
 pub fn first_named<'a>(word: &[u8], lines: &[&'a Line]) -> Option<&'a Line>
     ensures { option_map (λ line. line.now) result
         ≡ first_named word.now (map (λ line. line.now) lines.now) }
@@ -39,7 +39,7 @@ pub fn first_named<'a>(word: &[u8], lines: &[&'a Line]) -> Option<&'a Line>
     None
 }
 
-/// The value of the first line of this name, the empty text where there is none.
+/// The value of the first line of this name, the empty text if there is none.
 pub fn first_value<'a>(word: &[u8], lines: &[&'a Line]) -> &'a [u8]
     ensures { result.now ≡ first_value word.now (map (λ line. line.now) lines.now) }
 {

@@ -93,7 +93,7 @@ fn without_quotes(text: &[u8]) -> &[u8]
     without_last_quote(without_first_quote(text))
 }
 
-// The value of one parameter, where it has this name.
+// The value of one parameter, if it has this name.
 fn value_named<'a>(word: &[u8], text: &'a [u8]) -> Option<&'a [u8]>
     ensures { option_map (λ value. value.now) result
         ≡ value_named word.now (split_once 61 text.now) }

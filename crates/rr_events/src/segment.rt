@@ -55,7 +55,7 @@ impl<'a> Cutter<'a> {
         Ok(())
     }
 
-    // One unfolded line more, which stands here, before what stands after it.
+    // Takes in the next unfolded line, which stands here, before what stands after it.
     fn step(
         &mut self,
         alloc: Global,
@@ -83,7 +83,7 @@ impl<'a> Cutter<'a> {
 /// segments in a row are the part.
 ///
 /// `BadLine` comes for a BEGIN or END without a value, for an END that does not close the innermost open component, and, with
-/// the number of the last line, where the part ends within a component.
+/// the number of the last line, if the part ends within a component.
 pub fn segments<'a>(
     alloc: Global,
     sought: Sought,

@@ -46,7 +46,7 @@ module _ (f : Filling) (first : ℤ) where
         (λ h. by_lt_z {P = IsAllowedBefore from d} d from (λ l. (h.0, l, h.2)) (λ g. absurd (false≢true (sym (none d g h.1) ∙ h.2)))),
       ))
 
-  -- where each day is allowed
+  -- if each day is allowed
   pub listed_next : ((d : ℤ) → allows_day f d ≡ true) → (from next : ℤ) (days more : List ℤ) → first ≤ℤ from → next ≡ from +ℤ pos 1
       → more ≡ days ++ from ∷ [] → ListAllowed f first from days → ListAllowed f first next more
   listed_next all from next days more low is e listed =

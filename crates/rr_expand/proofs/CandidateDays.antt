@@ -1,4 +1,4 @@
--- The candidate days of a unit are the days of its stretch at which the date parts hold, where its interval fits.
+-- The candidate days of a unit are the days of its stretch at which the date parts hold, if its interval fits.
 use Rattle.std.proofs.Common.{◌≡◌, ℕ, Bool, true, false, ◌&&◌, List, ℤ, pos, ◌+ℤ◌, ◌-ℤ◌, ap, ◌∙◌}
 use Rattle.std.specs.Prelude.{IsTrue, int_lt}
 use Rattle.std.specs.Cmp.Derive.{both_true}

@@ -174,7 +174,7 @@ module _ (y z : ℤ) (alike : AreAlike y z) (beside : AreAlikeBeside y z) (k : �
 
 -- ---- masks
 
--- the years beside are asked only where BYWEEKNO is present
+-- the years beside are asked only if BYWEEKNO is present
 listed-same : (numbers : List ℤ) (w : ℕ) (y z : ℤ) (k : ℕ) → IsToldBy (is_absent numbers) y z → k < days_in_year y
     → is_week_listed numbers w (week_index (first_day_of_year y +ℤ pos k) w) ≡ is_week_listed numbers w (week_index (first_day_of_year z +ℤ pos k) w)
 listed-same [] w y z k told low = refl

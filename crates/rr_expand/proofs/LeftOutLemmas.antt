@@ -205,7 +205,7 @@ module _ (rule : Rule) (no_month : is_absent rule.by_month ≡ true) (no_week : 
   month_day_unwanted Monthly = present
   month_day_unwanted Yearly = rw (no_week, no_year_day, present) refl
 
-  -- a day is allowed where an item has its weekday
+  -- a day is allowed if an item has its weekday
   on_weekday : (start d : ℤ) → date_parts_hold (filled_rule rule Days start) d ≡ list_any (has_weekday (weekday_of d)) rule.by_day
   on_weekday start d =
       let r = filled_rule rule Days start in

@@ -25,11 +25,11 @@ module _ (words : List ℕ) (from i : ℕ) (word : i ≡ from / 64) where
       let bit : k % 64 ≡ from % 64 + (k - from) = omega arith in
       rw (same, bit) (ap (λ b. b == 1) (sym (bit_at_shr (get_or words i 0) (from % 64) (k - from))))
 
-  -- where nothing is left no bit is set
+  -- if nothing is left no bit is set
   pub no_bit_in_word : rest_of_word ≡ 0 → IsFirstBit words from ((from / 64 + 1) * 64) None
   no_bit_in_word none k low high = at_rest k low high ∙ ap (λ b. b == 1) (ap (λ n. bit_at n (k - from)) none ∙ bit_at-zero (k - from))
 
-  -- and else the lowest that is left is the first
+  -- and otherwise the lowest that is left is the first
   pub first_bit_in_word : get_or words i 0 < 2 ^ 64 → 0 < rest_of_word → IsFirstBit words from ((from / 64 + 1) * 64) (Some (from + trailing_zeros w64 rest_of_word))
   first_bit_in_word fits some =
       let t = trailing_zeros w64 rest_of_word in
@@ -79,7 +79,7 @@ bits_more words others test n before here other k h = elim (cases_eq k n) [
   | inr ne ↦ other k ne ∙ before k h ∙ ap (λ b. b && test k) (let t : nat_lt k n ≡ nat_lt k (n + 1) = grind (arith, nat_tests) in t)
 ]
 
--- the same where the bit at n is not set yet and the test does not pass
+-- the same if the bit at n is not set yet and the test does not pass
 pub bits_same : (words : List ℕ) (test : ℕ → Bool) (n : ℕ) → n < 384 → ((k : ℕ) → k < 384 → is_bit_set words k ≡ (nat_lt k n && test k))
     → test n ≡ false → (k : ℕ) → k < 384 → is_bit_set words k ≡ (nat_lt k (n + 1) && test k)
 bits_same words test n below before fails =

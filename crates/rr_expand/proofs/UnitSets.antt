@@ -20,7 +20,7 @@ use Rattle.rr_model.proofs.DaysAndTimesLemmas.{and_true, and_parts as all_parts}
 abbrev pub PassesAt : (ℕ → Bool) → (ℕ → Bool) → (ℕ → Bool) → ℕ → Type 0
 PassesAt H M S s = (s < 86_400) × IsTrue (H (s / 3_600) && M (s / 60 % 60) && S (s % 60))
 
--- a set that is empty where a test fails
+-- a set that is empty if a test fails
 if_passes : (b : Bool) (P : ℕ → Type 0) (xs : List ℕ) → (b ≡ true → IsSetOf nat_lt xs P) → ((s : ℕ) → P s → IsTrue b) → IsSetOf nat_lt (cond b xs []) P
 if_passes true P xs yes_set needs = yes_set refl
 if_passes false P xs yes_set needs = set_empty nat_lt P (λ s p. false≢true (needs s p))

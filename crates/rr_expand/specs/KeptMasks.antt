@@ -9,7 +9,7 @@ use Rattle.rr_expand.specs.declared.allowed_days.MaskedYear.{MaskedYear}
 use Rattle.rr_expand.specs.declared.allowed_days.KeptMasks.{KeptMasks}
 use Rattle.rr_expand.specs.declared.year_masks.YearMask.{YearMask}
 
--- an entry for each key, where a mask that is kept is that of every year of its key
+-- an entry for each key; a mask that is kept is that of every year of its key
 pub record AreMasks (f : Filling) (kept : List (Option YearMask)) : Type 0 where
   pub keys : length kept ≡ 56
   pub masks : (year : ℤ) (mask : YearMask) → get_or kept (mask_key f.rule year) None ≡ Some mask → IsYearMask f year mask.bits
@@ -27,7 +27,7 @@ pub record IsMaskedYear (year : MaskedYear) : Type 0 where
 abbrev pub is_marked : MaskedYear → ℤ → Bool
 is_marked year d = is_bit_set year.mask.bits (nat_abs (d -ℤ year.first))
 
--- the first day of the year from `from` on and before `end` whose bit is set; None where no bit is
+-- the first day of the year from `from` on and before `end` whose bit is set; None if no bit is
 abbrev pub IsFirstMarked : MaskedYear → ℤ → ℤ → Option ℤ → Type 0
 IsFirstMarked year from end None = (d : ℤ) → from ≤ℤ d → d <ℤ end → d <ℤ year.next → is_marked year d ≡ false
 IsFirstMarked year from end (Some day) =
@@ -58,12 +58,12 @@ pub record AreKeptMasks (f : Filling) (masks : KeptMasks) : Type 0 where
   pub year : IsMaskedYear masks.year
   pub marked : TellsYear f masks.year
 
--- where there are no masks every day is allowed
+-- if there are no masks every day is allowed
 abbrev pub TellDays : Filling → Option KeptMasks → Type 0
 TellDays f None = (d : ℤ) → allows_day f d ≡ true
 TellDays f (Some masks) = AreKeptMasks f masks
 
--- the start is near enough for the calls, and the masks tell which days are allowed: every day where there are none
+-- the start is near enough for the calls, and the masks tell which days are allowed: every day if there are none
 pub record AreMasksOf (f : Filling) (masks : Option KeptMasks) : Type 0 where
   pub near : IsDayWithin 1000 f.start_day
   pub days : TellDays f masks

@@ -20,11 +20,11 @@ unfoldable pub of_day : List ℕ → List ℕ → List ℕ → List ℕ
 of_day [] ms ss = []
 of_day (h ∷ hs) ms ss = of_hour (3_600 * h) ms ss ++ of_day hs ms ss
 
--- the listed seconds of the listed minutes of an hour, where BYHOUR allows the hour; else none
+-- the listed seconds of the listed minutes of an hour, if BYHOUR allows the hour; otherwise none
 abbrev pub of_hour_number : Rule → ℕ → List ℕ → List ℕ → List ℕ
 of_hour_number rule hour ms ss = if allows rule.by_hour (pos hour) then of_hour (3_600 * hour) ms ss else []
 
--- the listed seconds of a minute of the day, where BYHOUR and BYMINUTE allow the minute; else none
+-- the listed seconds of a minute of the day, if BYHOUR and BYMINUTE allow the minute; otherwise none
 abbrev pub of_minute_number : Rule → ℕ → List ℕ → List ℕ
 of_minute_number rule minute ss =
     if allows rule.by_hour (pos (minute / 60)) && allows rule.by_minute (pos (minute % 60)) then of_minute (60 * minute) ss else []
@@ -35,7 +35,7 @@ of_second_number rule second =
     if allows rule.by_hour (pos (second / 3_600)) && allows rule.by_minute (pos (second / 60 % 60))
     && allows rule.by_second (pos (second % 60)) then second ∷ [] else []
 
--- the listed seconds of the hour or minute of this number in its day, or the second of this number, where the time parts allow it; else none
+-- the listed seconds of the hour or minute of this number in its day, or the second of this number, if the time parts allow it; otherwise none
 abbrev pub of_unit : Freq → Rule → ℕ → List ℕ → List ℕ → List ℕ
 of_unit Hourly rule unit ms ss = of_hour_number rule unit ms ss
 of_unit Minutely rule unit ms ss = of_minute_number rule unit ss

@@ -6,11 +6,11 @@ use Rattle.rr_model.specs.declared.kind.Kind.TheVariants.{Moments}
 use Rattle.rr_model.specs.declared.rule.Rule.{Rule}
 use Rattle.rr_parts.specs.Numbers.{number_allowed}
 
--- the numbers below `count` that a part allows, where it is filled with the start's own number if absent and wanted
+-- the numbers below `count` that a part allows; if it is absent and wanted, it has the start's own number alone
 abbrev pub AreAllowedNumbers : Bool → List ℤ → ℕ → ℕ → List ℕ → Type 0
 AreAllowedNumbers is_wanted part own count numbers = IsSetOf nat_lt numbers (λ n. (n < count) × IsTrue (number_allowed is_wanted part own n))
 
--- where a unit holds several of them: the numbers below 60 that a part allows, filled with the start's own number; else none
+-- if a unit holds several of them: the numbers below 60 that a part allows, filled with the start's own number; otherwise none
 abbrev pub AreNumbersOfUnit : Bool → List ℤ → ℕ → List ℕ → Type 0
 AreNumbersOfUnit true part own numbers = AreAllowedNumbers true part own 60 numbers
 AreNumbersOfUnit false part own numbers = numbers ≡ []

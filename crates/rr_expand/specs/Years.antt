@@ -44,13 +44,13 @@ IsYearMask f year words = (k : ℕ) → k < 384 → is_bit_set words k ≡ allow
 abbrev pub MarksAllowed : Filling → ℤ → ℕ → List ℕ → Type 0
 MarksAllowed f first count words = (k : ℕ) → k < 384 → is_bit_set words k ≡ (nat_lt k count && allows_day f (first +ℤ pos k))
 
--- the first set bit from `from` on and before `end`; None where no bit is set
+-- the first set bit from `from` on and before `end`; None if no bit is set
 abbrev pub IsFirstBit : List ℕ → ℕ → ℕ → Option ℕ → Type 0
 IsFirstBit words from end None = (k : ℕ) → from ≤ k → k < end → is_bit_set words k ≡ false
 IsFirstBit words from end (Some bit) =
     (from ≤ bit) × (bit < end) × (is_bit_set words bit ≡ true) × ((k : ℕ) → from ≤ k → k < bit → is_bit_set words k ≡ false)
 
--- What a year's mask depends on: its kind, of which there are 14, and, where BYWEEKNO is present, whether the years before and
+-- What a year's mask depends on: its kind, of which there are 14, and, if BYWEEKNO is present, whether the years before and
 -- after it are leap, since a week at either end of a year can belong to the year beside it.
 abbrev pub mask_key : Rule → ℤ → ℕ
 mask_key rule year =
@@ -63,7 +63,7 @@ abbrev pub EqualKeysHaveEqualMasks : Type 0
 EqualKeysHaveEqualMasks =
     (f : Filling) (year other : ℤ) → mask_key f.rule year ≡ mask_key f.rule other → (k : ℕ) → allows_day_of_year f year k ≡ allows_day_of_year f other k
 
--- the first day from `from` on and before `end` that is allowed; None where none is
+-- the first day from `from` on and before `end` that is allowed; None if none is
 abbrev pub IsFirstAllowed : Filling → ℤ → ℤ → Option ℤ → Type 0
 IsFirstAllowed f from end None = (d : ℤ) → from ≤ℤ d → d <ℤ end → allows_day f d ≡ false
 IsFirstAllowed f from end (Some day) =

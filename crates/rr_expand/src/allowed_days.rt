@@ -12,7 +12,7 @@ use std::marker::Model;
 
 /// The days that the date parts of a rule allow, filled from the day of its start (RFC 5545, section 3.3.10).
 ///
-/// A year's days are found by a mask, of which there are at most 56, each made at its first use and kept. Where no date
+/// A year's days are found by a mask, of which there are at most 56, each made at its first use and kept. If no date
 /// part is present or filled every day is allowed, and no date is computed.
 #[derive(Drop)]
 pub struct AllowedDays {
@@ -49,7 +49,7 @@ struct MaskedYear {
 }
 
 impl AllowedDays {
-    /// Of a rule beside the day of its start, in days since 1970-01-01. No mask is made yet.
+    /// The days that a rule allows beside the day of its start, in days since 1970-01-01. No mask is made yet.
     pub fn new(alloc: Global, rule: &Rule, start_day: i64) -> Result<Self, NoMemory>
         requires { IsDayWithin 1000 start_day }
         ensures { IfOk result (λ a. a ≡ filling_of rule.now start_day) }
@@ -63,7 +63,8 @@ impl AllowedDays {
         })
     }
 
-    /// The first allowed day from one on and before another. It takes no memory.
+    /// The first allowed day from one on and before another, in days since 1970-01-01; `None` if there is none. It
+    /// takes no memory.
     pub fn first_from(&mut self, from: i64, end: i64) -> Option<i64>
         requires from { IsDayWithin 0 from }
         requires end { IsDayWithin 0 end }
@@ -256,7 +257,7 @@ fn mask_of(kept: &mut Vec<Option<YearMask>>, rule: &Rule, start_day: i64, year: 
     mask
 }
 
-// Masks for the rule, or none where it allows every day.
+// Masks for the rule, or none if it allows every day.
 fn masks_for(alloc: Global, rule: &Rule) -> Result<Option<KeptMasks>, AllocError>
     ensures { IfOk result (λ m. (start : ℤ) → TellDays (filling_of rule.now start) m) }
 {

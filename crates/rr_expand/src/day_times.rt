@@ -27,7 +27,7 @@ pub fn times(alloc: Global, rule: &Rule, kind: Kind, start: i64) -> Result<TimeS
     }
 }
 
-// The same in kind `Moments`.
+// The seconds of every candidate day of a rule of moments, DAILY or coarser, whose start is this moment.
 fn times_of_day(alloc: Global, rule: &Rule, start: i64) -> Result<TimeSet, NoMemory>
     requires { IsTrue (is_whole_days rule.now.freq) }
     ensures { IfOk result (λ t. IsSetOf nat_lt t (IsCandidateTime rule.now Moments start)) }

@@ -67,7 +67,7 @@ pub fn fitting_seconds_by(
     TimeSet::of(alloc, seconds.as_slice())
 }
 
-// The same, second by second.
+// The seconds of `fitting_seconds_by` as a rising list, put unit by unit.
 fn fitting_list(
     alloc: Global,
     rule: &Rule,

@@ -14,7 +14,7 @@ use rr_model::{Freq, Rule};
 use rr_parts::allows;
 use std::alloc::AllocError;
 
-/// How many units a day has.
+/// How many units of a frequency a day has: 24 hours, 1,440 minutes or 86,400 seconds.
 pub fn units_of_day(freq: Freq) -> u64
     ensures { result ≡ 86_400 / unit_seconds freq }
 {
@@ -25,7 +25,8 @@ pub fn units_of_day(freq: Freq) -> u64
     }
 }
 
-/// The number of a moment's unit.
+/// The number of the unit in which a moment lies, the first one of 1970-01-01 as number 0. The moment is in seconds
+/// since its midnight.
 pub fn unit_of(freq: Freq, at: i64) -> i64
     requires freq { is_whole_days freq ≡ false }
     requires near { IsDayWithin 1000 (day_part Moments at) }
@@ -39,7 +40,7 @@ pub fn unit_of(freq: Freq, at: i64) -> i64
     }
 }
 
-/// The number of the first unit of a day.
+/// The number of the first unit of a day, which is given in days since 1970-01-01.
 pub fn first_unit(freq: Freq, day: i64) -> i64
     requires freq { is_whole_days freq ≡ false }
     requires near { IsDayWithin 1000 day }
@@ -64,8 +65,8 @@ pub fn first_fit(first: i64, start: i64, interval: u32) -> u64
     (start - first).rem_euclid(i64::from(interval)) as u64
 }
 
-// Appends the seconds that the time parts allow in the unit of this number in its day, where the lists are the minutes
-// and the seconds that they allow.
+// Appends the seconds that the time parts allow in the unit of this number in its day; the lists are the minutes and
+// the seconds that they allow in an hour and a minute.
 pub(crate) fn push_unit(
     out: &mut Vec<u32>,
     rule: &Rule,

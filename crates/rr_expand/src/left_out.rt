@@ -11,7 +11,7 @@ use rr_cal::Day;
 use rr_model::{DayItem, Freq, Numbers, Rule};
 use rr_parts::{allows_filled, allows_signed};
 
-// How many days to go on from a day of each weekday, from Monday: none of those between has a weekday of BYDAY, where it is
+// How many days to go on from a day of each weekday, from Monday: none of those between has a weekday of BYDAY, if it is
 // present.
 pub(crate) fn gaps(rule: &Rule) -> [u8; 7]
     ensures { AreGaps rule.now result }
@@ -54,7 +54,8 @@ pub(crate) fn days_on(rule: &Rule, start: &Day, gaps: &[u8; 7], day: &Day) -> u8
     days_on_in_month(rule, start, day).max(gaps[usize::from(day.weekday)])
 }
 
-// The same by the months and the days of the month, at most up to the month's last day, and from there to the next day.
+// How many days to go on from a day, told by BYMONTH and BYMONTHDAY alone: at most to the month's last day, and from
+// that day one.
 fn days_on_in_month(rule: &Rule, start: &Day, day: &Day) -> u8
     ensures some { 1 ≤ result }
     ensures few { result ≤ 31 }
@@ -90,7 +91,7 @@ fn leaves_out_month(rule: &Rule, start: &Day, day: &Day) -> bool
     !allows_filled(&rule.by_month, fills_month(rule), start.month, day.month)
 }
 
-// The first day after the k-th of a month of `many` days that BYMONTHDAY, which is present, lists; else the last day.
+// The first day after the k-th of a month of `many` days that BYMONTHDAY, which is present, lists; otherwise the last day.
 fn next_listed(numbers: &Numbers, k: u8, many: u8) -> u8
     requires { k < many }
     ensures { IsNextIn (λ i. allows_signed numbers.now (pos i) (pos many)) k many result }
@@ -143,7 +144,7 @@ fn has_weekday(item: DayItem, weekday: u8) -> bool
     item.weekday == weekday
 }
 
-// The day of the start's number where it comes after the k-th of a month of `many` days; else the last day.
+// The day of the start's number if it comes after the k-th of a month of `many` days; otherwise the last day.
 fn next_own(own: u8, k: u8, many: u8) -> u8
     requires { k < many }
     ensures { IsNextIn (λ i. allows_signed (pos own ∷ []) (pos i) (pos many)) k many result }
@@ -151,7 +152,7 @@ fn next_own(own: u8, k: u8, many: u8) -> u8
     if k < own && own < many { own } else { many }
 }
 
-// Whether the month is filled from the start, where it is absent.
+// Whether the month is filled from the start, if it is absent.
 fn fills_month(rule: &Rule) -> bool
     ensures { result ≡ wants_month rule.now.freq rule.now }
 {
@@ -195,7 +196,7 @@ pub(crate) fn day_after(day: &Day, days: u8) -> Day
     }
 }
 
-// The same in one month.
+// The day `days` days after a day, in the same month.
 fn day_after_in_month(day: &Day, days: u8) -> Day
     requires near { IsDayWithin 1000 (day.now.number +ℤ pos days) }
     requires inside { day.now.day_of_month + days ≤ day.now.days_in_month }

@@ -6,7 +6,7 @@ use rr_model::Numbers;
 use rr_parts::allows_filled;
 use std::alloc::{AllocError, Global};
 
-// The numbers below `count` that the part allows, where it is filled with the start's own number if absent and wanted.
+// The numbers below `count` that the part allows; if it is absent and wanted, it has the start's own number alone.
 pub(crate) fn allowed_numbers(
     alloc: Global,
     part: &Numbers,

@@ -18,7 +18,7 @@ use std::alloc::Global;
 /// interval from there fits (RFC 5545, section 3.3.10).
 ///
 /// Days are day numbers. Units are numbered over all days: a day by itself, a week by `floor((d + 3 - w) / 7)` of each of
-/// its days `d` where weeks begin on the weekday `w`, a month by 12 times its year plus the months before it there, a
+/// its days `d` if weeks begin on the weekday `w`, a month by 12 times its year plus the months before it there, a
 /// year by itself. A unit that holds a day within `MAX_DAY` is near enough.
 pub fn days(alloc: Global, rule: &Rule, start_day: i64, unit: i64) -> Result<Dates, NoMemory>
     requires freq { IsTrue (is_whole_days rule.now.freq) }

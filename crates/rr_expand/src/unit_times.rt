@@ -18,7 +18,8 @@ pub struct UnitTimes {
 }
 
 impl UnitTimes {
-    /// Of a rule beside its start, which is 86,400 times the day number plus the second of the day.
+    /// The minutes and seconds that the time parts of a rule allow in a unit. The start is 86,400 times its day number
+    /// plus the second of the day.
     pub fn new(alloc: Global, rule: &Rule, start: i64) -> Result<Self, AllocError>
         ensures { IfOk result (λ t. AreUnitTimes rule.now start t.minutes.items t.seconds.items) }
     {
@@ -32,7 +33,7 @@ impl UnitTimes {
     }
 }
 
-// The numbers below 60 that a part allows, filled from the start's own number, of a unit that holds many; else none.
+// The numbers below 60 that a part allows, filled from the start's own number, of a unit that holds many; otherwise none.
 fn numbers_of_unit(
     alloc: Global,
     part: &Numbers,

@@ -10,7 +10,7 @@ use rr_model::Rule;
 use rr_parts::date_parts_hold;
 
 /// The days of a year that the date parts of a rule allow (RFC 5545, section 3.3.10), a bit for each: bit `k`, counted
-/// from the lowest bit of the first word, is that of day `k` of the year, where 1 January is day 0.
+/// from the lowest bit of the first word, is that of day `k` of the year. 1 January is day 0.
 #[derive(Clone, Copy)]
 pub struct YearMask {
     /// The bits; those from the year's length on are 0.
@@ -18,8 +18,8 @@ pub struct YearMask {
 }
 
 impl YearMask {
-    /// The first day from one on and before another, counted in the year from 0, whose bit is 1. Words of which no bit is
-    /// set are passed over at once.
+    /// The first day from one on and before another, counted in the year from 0, whose bit is 1; `None` if there is
+    /// none. Words of which no bit is set are passed over at once.
     pub fn first_from(&self, from: u16, end: u16) -> Option<u16>
         requires { end ≤ 384 }
         ensures { IsFirstBit self.now.bits from end result }
@@ -133,7 +133,7 @@ pub fn new_year(year: i64) -> i64
 pub const YEAR_KEYS: usize = 56;
 
 /// The key of a year, below 56: years of one key have the same mask. It is the kind of the year, and with BYWEEKNO 14 more
-/// where the year before is leap, and 28 more where the year after is. Years from -3,000,000,000,000 to 3,000,000,000,000.
+/// if the year before is leap, and 28 more if the year after is. Years from -3,000,000,000,000 to 3,000,000,000,000.
 pub fn mask_key(rule: &Rule, year: i64) -> u8
     requires { IsDayWithin 0 year }
     ensures value { result ≡ mask_key rule.now year }
@@ -147,7 +147,7 @@ pub fn mask_key(rule: &Rule, year: i64) -> u8
     }
 }
 
-// So much where the year is leap, and 0 where it is not.
+// `more` if the year is leap, and 0 otherwise.
 fn if_leap(year: i64, more: u8) -> u8
     ensures { result ≡ (if is_leap year then more else 0) }
 {

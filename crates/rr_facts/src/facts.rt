@@ -1,6 +1,6 @@
 // Which files were compared, and how.
 
-/// One of two files.
+/// One of two files that are compared, as it was given.
 #[derive(Clone, Copy)]
 pub struct FileFacts<'a> {
     /// Its name, as it was given.
@@ -9,7 +9,7 @@ pub struct FileFacts<'a> {
     pub language: &'static str,
     /// Its stated offset, or that of both files: local time less UTC, in seconds.
     pub offset: Option<i32>,
-    /// Its bytes.
+    /// Its bytes, as they were read.
     pub bytes: &'a [u8],
 }
 
@@ -18,9 +18,9 @@ pub struct FileFacts<'a> {
 pub struct Facts<'a> {
     /// The release that compares, as `0.20.0`.
     pub version: &'static str,
-    /// The file A.
+    /// The file A, which was given first.
     pub old: FileFacts<'a>,
-    /// The file B.
+    /// The file B, which was given second.
     pub new: FileFacts<'a>,
     /// Whether equal events are left out.
     pub only_differences: bool,

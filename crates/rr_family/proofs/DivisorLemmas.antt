@@ -161,7 +161,7 @@ pub interval_divides : (s : Sketch) (first : ℤ) (days : ℕ) (divisors : Divis
 interval_divides s first days divisors freq w interval are whole few some each =
     (are freq w whole few).1 interval (λ d l h o. divides_size interval (unit_number freq w Days d -ℤ unit_number freq w Days first) some (each d l o))
 
--- where the divisor is 0, each day up to an occupied one lies in the unit of the first
+-- if the divisor is 0, each day up to an occupied one lies in the unit of the first
 pub one_unit : (s : Sketch) (first last : ℤ) (days : ℕ) (divisors : Divisors) (freq : Freq) (w : ℕ) → AreDivisors divisors (is_occupied s) first days
     → IsTrue (is_whole_days freq) → w < 7 → divisor_of divisors freq w ≡ 0 → is_occupied s last ≡ true → first ≤ℤ last → last <ℤ (first +ℤ pos days)
     → (d : ℤ) → first ≤ℤ d → d ≤ℤ last → unit_number freq w Days d ≡ unit_number freq w Days first

@@ -45,7 +45,7 @@ use Rattle.rr_family.specs.Shift.{CycleIsPatterns}
 one_divides : (c : ℕ) → 1 ∣ c
 one_divides c = subst (λ z. 1 ∣ z) (omega arith) (dvd-mul_right 1 c)
 
--- weekdays stand only where 7 divides c, and the calendar is asked only where 146,097 does
+-- weekdays stand only if 7 divides c, and the calendar is asked only if 146,097 does
 abbrev HasParts : Rule → ℕ → Type 0
 HasParts r c = ((is_absent r.by_day ≡ true) ⊎ (7 ∣ c)) × ((asks_calendar r ≡ false) ⊎ (146_097 ∣ c))
 

@@ -195,7 +195,7 @@ module _ (gives : ℕ → ℤ → Bool) (occupied : ℤ → Bool) (first : ℤ) 
         | inr none ↦ ok d l h (or_true (gives b d) (some_gives gives taken d) g none)
       ]
 
-  -- where no sound place gives a further day, and together they cover, the taken ones cover
+  -- if no sound place gives a further day, and together they cover, the taken ones cover
   covered : (sound taken : List ℕ) → Covers sound
       → ((place : ℕ) → list_any (λ other. place == other) sound ≡ true → further_days gives occupied first days taken place ≡ 0) → Covers taken
   covered sound taken covers none d l h o =

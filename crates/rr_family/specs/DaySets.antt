@@ -15,7 +15,7 @@ use Rattle.rr_family.specs.Taking.{AgreeWithin}
 abbrev pub window_days : ℤ → ℤ → ℕ
 window_days first last = nat_abs ((last -ℤ first) +ℤ pos 1)
 
--- the day is not past the end, where days that pass the test count from the first one on
+-- the day is not past the end, if days that pass the test count from the first one on
 abbrev pub IsUpToRangeEnd : (ℤ → Bool) → ℤ → RangeEnd → ℤ → Type 0
 IsUpToRangeEnd test first NoEnd d = ⊤
 IsUpToRangeEnd test first (EndDate last) d = d ≤ℤ last

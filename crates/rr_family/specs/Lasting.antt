@@ -13,7 +13,7 @@ use Rattle.rr_family.specs.Taking.{AgreeWithin, is_sound, some_gives, taken_plac
 abbrev pub is_occupied : Sketch → ℤ → Bool
 is_occupied s d = not (is_absent (times_on s d))
 
--- this second alone where the day is occupied; no second where it is not
+-- this second alone if the day is occupied; no second if it is not
 abbrev pub at_second : ℕ → Bool → List ℕ
 at_second second true = second ∷ []
 at_second second false = []
@@ -48,7 +48,7 @@ pub record FitsCycle (s : Sketch) (first : ℤ) (c : ℕ) : Type 0 where
   pub divides : period ∣ c
   pub start : IsLeastStart (times_on s) first period first
 
--- Where they do, a place that is sound on one cycle from the first day on is sound for ever.
+-- If they do, a place that is sound on one cycle from the first day on is sound for ever.
 abbrev pub SoundLasts : Type 0
 SoundLasts = (s : Sketch) (first : ℤ) (c : ℕ) (gives : ℕ → ℤ → Bool) (place : ℕ) → FitsCycle s first c → RepeatsEverywhere (gives place) c
     → is_sound gives (is_occupied s) first c place ≡ true → (d : ℤ) → first ≤ℤ d → gives place d ≡ true → is_occupied s d ≡ true

@@ -146,7 +146,7 @@ MembersOnDays = (rule : VRule) (kind : Kind) (start t : ℤ) (l : Kind) → IsPr
     → VcalOccurrences rule kind start l t ↔ OccursOnDays (items_have_day rule.family rule.interval (day_part kind start) rule.items)
     (range_of rule.end) kind start l t
 
--- Where some rule of a kind and interval has the set, the set has one second and begins with the rule's start, and the
+-- If some rule of a kind and interval has the set, the set has one second and begins with the rule's start, and the
 -- taken list has the occupied days of the window.
 abbrev pub NoListIsLost : Type 0
 NoListIsLost = (s : Sketch) (rule : VRule) (kind : Kind) (start : ℤ) (days : ℕ) → IsValidSketch s → IsRuleOf (StandsIn s) rule kind start
@@ -155,7 +155,7 @@ NoListIsLost = (s : Sketch) (rule : VRule) (kind : Kind) (start : ℤ) (days : �
     → IsOneSecond s kind (second_part kind start) first
     × AgreeWithin (some_gives (place_has_day rule.family rule.interval first) (list_places s rule.family rule.interval first days)) (is_occupied s) first days
 
--- Where some rule of a kind and interval has an endless set, the least period divides the cycle and the least start is the start's day.
+-- If some rule of a kind and interval has an endless set, the least period divides the cycle and the least start is the start's day.
 abbrev pub EndlessRuleHasCycle : Type 0
 EndlessRuleHasCycle = (s : Sketch) (rule : VRule) (kind : Kind) (start : ℤ) → IsValidSketch s → IsRuleOf (StandsIn s) rule kind start → IsEndless s
     → HasCycle s (day_part kind start) (family_cycle rule.family rule.interval)
@@ -170,7 +170,7 @@ EndlessListIsRule = (s : Sketch) (f : FamilyKind) (interval : ℕ) (kind : Kind)
     → AgreeWithin (some_gives (place_has_day f interval first) (list_places s f interval first days)) (is_occupied s) first days
     → IsRuleOf (StandsIn s) (vrule f interval (list_items s f interval first days) Never) kind start
 
--- One that has those of a finite set is a rule of it, with as many members as days are occupied, where a COUNT can be that.
+-- One that has those of a finite set is a rule of it, with as many members as days are occupied, if a COUNT can be that.
 abbrev pub FiniteListIsRule : Type 0
 FiniteListIsRule = (s : Sketch) (f : FamilyKind) (interval : ℕ) (kind : Kind) (start last : ℤ) → IsValidSketch s → 1 ≤ interval
     → interval ≤ most_family_interval f → IsInYears kind start

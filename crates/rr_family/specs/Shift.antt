@@ -24,11 +24,11 @@ family_cycle family interval = interval_cycle (family_freq family) interval
 abbrev pub form_cycle : Form → ℕ → ℕ
 form_cycle form interval = interval_cycle (form_freq form) interval
 
--- the days of some of the items, where the series starts on this day
+-- the days of some of the items, if the series starts on this day
 abbrev pub items_have_day : FamilyKind → ℕ → ℤ → List Item → ℤ → Bool
 items_have_day family interval start items d = list_any (λ item. item_has_day family interval start item d) items
 
--- n days later the test holds exactly where it held
+-- n days later the test holds exactly if it held
 abbrev pub RepeatsEverywhere : (ℤ → Bool) → ℕ → Type 0
 RepeatsEverywhere test c = (d : ℤ) → test (d +ℤ pos c) ≡ test d
 

@@ -38,7 +38,7 @@ sort_in_unit family.MP start d = Some (place_sort (day_of_month d) (days_in_mont
 sort_in_unit family.YM start d = if day_of_month d == day_of_month start then Some (month_of d - 1) else None
 sort_in_unit family.YD start d = Some (day_of_year d - 1)
 
--- the sort of a day; none where its unit does not count
+-- the sort of a day; none if its unit does not count
 abbrev pub sort_of_day : FamilyKind → ℕ → ℤ → ℤ → Option ℕ
 sort_of_day f interval start d = if divides interval (family_unit f d -ℤ family_unit f start) then sort_in_unit f start d else None
 
@@ -51,7 +51,7 @@ has_sort family.MP sort index = (index % 7 == sort % 7) && ((index / 7 == sort /
 has_sort family.YM sort index = index == sort
 has_sort family.YD sort index = index == sort
 
--- Of each kind an item has a day exactly where it has the day's sort, and the sorts are numbered below `many_sorts`.
+-- Of each kind an item has a day exactly if it has the day's sort, and the sorts are numbered below `many_sorts`.
 abbrev pub KindsHaveSorts : Type 0
 KindsHaveSorts = (f : FamilyKind) (interval : ℕ) (start : ℤ)
     → AreSorts (place_has_day f interval start) (many_sorts f) (sort_of_day f interval start) (has_sort f)

@@ -19,12 +19,12 @@ sort_passes test (Some sort) = test sort
 abbrev pub days_of_sort : (ℤ → Option ℕ) → (ℤ → Bool) → ℤ → ℕ → ℕ → ℕ
 days_of_sort sort_of test first days sort = count_from (λ d. sort_passes (λ k. sort == k) (sort_of d) && test d) first days
 
--- A place has a day exactly where it has the day's sort; sorts are numbered below `sorts`.
+-- A place has a day exactly if it has the day's sort; sorts are numbered below `sorts`.
 pub record AreSorts (gives : ℕ → ℤ → Bool) (sorts : ℕ) (sort_of : ℤ → Option ℕ) (has : ℕ → ℕ → Bool) : Type 0 where
   pub gives_sort : (place : ℕ) (d : ℤ) → gives place d ≡ sort_passes (λ sort. has sort place) (sort_of d)
   pub below : (d : ℤ) (sort : ℕ) → sort_of d ≡ Some sort → sort < sorts
 
--- A place is sound exactly where no sort that it has has a day that is not occupied.
+-- A place is sound exactly if no sort that it has has a day that is not occupied.
 abbrev pub SoundBySorts : Type 0
 SoundBySorts = (gives : ℕ → ℤ → Bool) (sorts : ℕ) (sort_of : ℤ → Option ℕ) (has : ℕ → ℕ → Bool) (occupied : ℤ → Bool) (first : ℤ) (days place : ℕ)
     → AreSorts gives sorts sort_of has
@@ -47,7 +47,7 @@ UnsortedHasNoList = (gives : ℕ → ℤ → Bool) (sorts : ℕ) (sort_of : ℤ 
     → first ≤ℤ d → d <ℤ (first +ℤ pos days) → occupied d ≡ true → sort_of d ≡ None
     → AgreeWithin (some_gives gives places) occupied first days → ⊥
 
--- Where a sort has an occupied day of the window and one that is not, no list has the window's days.
+-- If a sort has an occupied day of the window and one that is not, no list has the window's days.
 abbrev pub MixedHasNoList : Type 0
 MixedHasNoList = (gives : ℕ → ℤ → Bool) (sorts : ℕ) (sort_of : ℤ → Option ℕ) (has : ℕ → ℕ → Bool) (occupied : ℤ → Bool) (first : ℤ) (days : ℕ)
     (places : List ℕ) (sort : ℕ) → AreSorts gives sorts sort_of has

@@ -19,7 +19,7 @@ IsNextWithin test q days (Some day) = (q ≤ℤ day) × (day <ℤ (q +ℤ pos da
 abbrev pub IsAtSecond : Sketch → ℕ → ℤ → Type 0
 IsAtSecond s second d = times_on s d ≡ at_second second (is_occupied s d)
 
--- the second that each occupied day has alone, or none where there is no such second
+-- the second that each occupied day has alone, or none if there is no such second
 abbrev pub IsSecondOf : Sketch → ℤ → Option ℕ → Type 0
 IsSecondOf s first None = (second : ℕ) → IsOneSecond s s.kind second first → ⊥
 IsSecondOf s first (Some second) = IsOneSecond s s.kind second first

@@ -30,7 +30,7 @@ pub record HasWindow (s : Sketch) (w : Window) : Type 0 where
   pub next : IsSecondDay s w.first w.next
   pub end : IsWindowEnd s w.first w.end
 
--- what is known of the set: its window; None where it is empty, has two seconds, or does not begin in the years 1 to 9999
+-- what is known of the set: its window; None if it is empty, has two seconds, or does not begin in the years 1 to 9999
 abbrev pub IsWindowOf : Sketch → Option Window → Type 0
 IsWindowOf s None = (kind : Kind) (start : ℤ) → IsInYears kind start → IsOneSecond s kind (second_part kind start) (day_part kind start) → ⊥
 IsWindowOf s (Some w) = HasWindow s w

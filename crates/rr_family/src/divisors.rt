@@ -19,19 +19,19 @@ use rr_word::DaySeq;
 // and years.
 const MORE_DAYS: u64 = 366;
 
-/// The greatest numbers by multiples of which the units of a set's occupied days lie from that of the first one; 0 where
+/// The greatest numbers by multiples of which the units of a set's occupied days lie from that of the first one; 0 if
 /// all of them lie in one unit.
 ///
 /// A rule or pattern of the set has an interval that divides the number of its unit.
 #[derive(Clone, Copy, Debug, PartialEq, Eq)]
 pub struct Divisors {
-    /// Of days.
+    /// That of days; 0 if only one day is occupied.
     pub days: u64,
     /// Of weeks, by the weekday on which they begin, from 0 for Monday.
     pub weeks: [u64; 7],
-    /// Of months.
+    /// That of months, counted through all years; 0 if all days lie in one month.
     pub months: u64,
-    /// Of years.
+    /// That of years; 0 if all days lie in one year.
     pub years: u64,
 }
 
@@ -95,7 +95,7 @@ impl Divisors {
         }
     }
 
-    /// Whether they tell that no rule or pattern of this interval has the set, where none of a lesser one has it: its
+    /// Whether they tell that no rule or pattern of this interval has the set, if none of a lesser one has it: its
     /// interval does not divide the number of its units, or all days of a finite set lie in one unit, so that each interval
     /// has those of interval 1.
     pub fn leave_out(&self, end: WindowEnd, freq: Freq, week_start: u8, interval: u32) -> bool
@@ -106,7 +106,7 @@ impl Divisors {
         is_left_out(end, self.of_unit(freq, week_start), interval)
     }
 
-    // Those of one day alone.
+    // The divisors of a set with one day alone: all are 0.
     fn of_one_day() -> Self
         ensures { (freq : Freq) (w : ℕ) → divisor_of result freq w ≡ 0 }
     {
@@ -118,7 +118,7 @@ impl Divisors {
         }
     }
 
-    // Those of one more occupied day.
+    // The divisors once a further occupied day is known.
     fn with_day(&self, start: &Day, day: &Day) -> Self
         ensures { IsJoined self.now start.now.number day.now.number result }
     {
@@ -134,7 +134,7 @@ impl Divisors {
         }
     }
 
-    // Those of weeks.
+    // The divisors of weeks once a further occupied day is known, by the weekday on which weeks begin.
     fn weeks_with_day(&self, start: &Day, day: &Day) -> [u64; 7]
         ensures { (w : ℕ) → w < 7
             → IsJoinedAt self.now Weekly w start.now.number day.now.number (get_or result w 0) }
@@ -150,7 +150,7 @@ impl Divisors {
         ]
     }
 
-    // That of the units of a frequency.
+    // The divisor of the units of a frequency once a further occupied day is known.
     fn divisor_with_day(&self, freq: Freq, week_start: u8, start: &Day, day: &Day) -> u64
         requires whole { IsTrue (is_whole_days freq) }
         requires week { week_start < 7 }
@@ -180,7 +180,7 @@ fn units_apart(freq: Freq, week_start: u8, start: &Day, day: &Day) -> u64
     unit_of_day(freq, week_start, day).abs_diff(unit_of_day(freq, week_start, start))
 }
 
-// The greatest common divisor, which is 0 where both are.
+// The greatest common divisor, which is 0 if both are.
 fn common_divisor(a: u64, b: u64) -> u64
     ensures { IsGcd a b result }
 {

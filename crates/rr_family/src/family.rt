@@ -13,16 +13,16 @@ use rr_num::is_congruent;
 /// Its items are numbered from 0, in the order in which they are tried and written. Days are numbered from 1970-01-01,
 /// which is day 0. No call takes memory.
 pub trait Family {
-    /// The kind.
+    /// The kind of rule, as contracts see it.
     ghost of_kind: { Self → FamilyKind };
 
-    /// The interval.
+    /// The interval, as contracts see it.
     ghost every: { Self → ℕ };
 
     /// The day on which the series starts.
     ghost start: { Self → ℤ };
 
-    /// The kind.
+    /// The kind of rule: which days are its items.
     fn family(&self) -> FamilyKind
         ensures { result ≡ of_kind self.now };
 

@@ -18,7 +18,7 @@ pub fn taking_is_sound()
     ensures { TakingIsSound }
 {}
 
-/// A place is sound exactly where no sort that it has has a day that is not occupied.
+/// A place is sound exactly if no sort that it has has a day that is not occupied.
 pub fn sound_by_sorts()
     ensures { SoundBySorts }
 {}
@@ -103,12 +103,12 @@ pub fn members_on_days()
     ensures { MembersOnDays }
 {}
 
-/// Where some rule of a kind and interval has the set, the taken list has its days in the window.
+/// If some rule of a kind and interval has the set, the taken list has its days in the window.
 pub fn no_list_is_lost()
     ensures { NoListIsLost }
 {}
 
-/// Where some rule of a kind and interval has an endless set, the set's least period divides their cycle.
+/// If some rule of a kind and interval has an endless set, the set's least period divides their cycle.
 pub fn endless_rule_has_cycle()
     ensures { EndlessRuleHasCycle }
 {}
@@ -143,7 +143,7 @@ pub fn pattern_has_one_second()
     ensures { PatternHasOneSecond }
 {}
 
-/// Where a pattern has an endless set, the set's least period divides the pattern's cycle.
+/// If a pattern has an endless set, the set's least period divides the pattern's cycle.
 pub fn endless_pattern_has_cycle()
     ensures { EndlessPatternHasCycle }
 {}

@@ -23,7 +23,7 @@ pub struct MonthDayFamily {
 }
 
 impl MonthDayFamily {
-    /// The kind MD from this day, each n months: 1 to 99.
+    /// The kind MD from this day on, in days since 1970-01-01, each n months: 1 to 99.
     pub fn new(first_day: i64, interval: u32) -> Self
         requires near { IsDayWithin 0 first_day }
         requires low { 1 ≤ interval }
@@ -72,7 +72,7 @@ pub struct MonthPlaceFamily {
 }
 
 impl MonthPlaceFamily {
-    /// The kind MP from this day, each n months: 1 to 99.
+    /// The kind MP from this day on, in days since 1970-01-01, each n months: 1 to 99.
     pub fn new(first_day: i64, interval: u32) -> Self
         requires near { IsDayWithin 0 first_day }
         requires low { 1 ≤ interval }

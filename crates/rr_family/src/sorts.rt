@@ -28,9 +28,9 @@ pub fn many_sorts(kind: FamilyKind) -> u16
     }
 }
 
-/// The sort of a day where a series of this kind and interval starts on the day `start`, numbered from 0.
+/// The sort of a day if a series of this kind and interval starts on the day `start`, numbered from 0.
 ///
-/// None where no item has the day: its week, month or year does not count, or for YM its day of the month is not the
+/// None if no item has the day: its week, month or year does not count, or for YM its day of the month is not the
 /// start's.
 pub fn sort_of_day(kind: FamilyKind, interval: u32, start: &Day, day: &Day) -> Option<u16>
     requires some { 1 ≤ interval }
@@ -99,7 +99,7 @@ fn month_day_sort_of(k: u16, many: u16) -> u16
     (k - 1) * 4 + (many - 28)
 }
 
-// Its weekday's rank in the month from the front and from the back, and the weekday.
+// The sort of a day by its weekday's rank in the month from the front and from the back, and by the weekday.
 fn place_sort(day: &Day) -> u16
     ensures { result
         ≡ place_sort (day_of_month day.now.number) (days_in_month_of day.now.number)
@@ -122,7 +122,7 @@ fn place_sort_of(k: u16, many: u16, weekday: u16) -> u16
     ((k - 1) / 7 * 5 + (many - k) / 7) * 7 + weekday
 }
 
-// The month, where the day has the start's number in it.
+// The month, if the day has the start's number in it.
 fn month_sort(start: &Day, day: &Day) -> Option<u16>
     ensures { result ≡ sort_in_unit YM start.now.number day.now.number }
 {

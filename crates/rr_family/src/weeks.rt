@@ -17,7 +17,7 @@ pub struct WeekFamily {
 }
 
 impl WeekFamily {
-    /// The kind W from this day, each n weeks: 1 to 999.
+    /// The kind W from this day on, in days since 1970-01-01, each n weeks: 1 to 999.
     pub fn new(first_day: i64, interval: u32) -> Self
         requires near { IsDayWithin 0 first_day }
         requires low { 1 ≤ interval }

@@ -16,14 +16,14 @@ use rr_word::{DaySeq, least_period, least_start};
 /// Where a set ends, or how it repeats.
 #[derive(Clone, Copy, Debug, PartialEq, Eq)]
 pub enum WindowEnd {
-    /// A finite set.
+    /// A finite set, with its last occupied day and their number.
     Last {
-        /// The last occupied day.
+        /// The last occupied day, in days since 1970-01-01.
         day: i64,
         /// How many days are occupied.
         many: u64,
     },
-    /// An endless set.
+    /// An endless set, with its least period.
     Cycle {
         /// Its least period in days.
         period: u64,
@@ -41,7 +41,7 @@ pub struct Window {
     pub kind: Kind,
     /// The second of the day of each occurrence, 0 for dates.
     pub second: u32,
-    /// The first occupied day.
+    /// The first occupied day, in the years 1 to 9999.
     pub first: i64,
     /// The occupied day after it, if there is one.
     pub next: Option<i64>,
@@ -49,7 +49,7 @@ pub struct Window {
     pub end: WindowEnd,
 }
 
-/// What is known of a set; None where it is empty, has two seconds on its days, or does not begin in the years 1 to 9999.
+/// What is known of a set; None if it is empty, has two seconds on its days, or does not begin in the years 1 to 9999.
 ///
 /// The days from the first occupied one to the end of the first whole period are read, some of them more than once.
 /// It takes no memory.
@@ -71,7 +71,7 @@ pub fn window_of<A: DaySeq>(seq: &A) -> Option<Window>
     })
 }
 
-/// Whether a day has an occurrence.
+/// Whether a sequence has an occurrence on a day, in days since 1970-01-01.
 pub fn is_occupied<A: DaySeq>(seq: &A, day: i64) -> bool
     requires near { IsDayWithin 0 day }
     ensures { result ≡ is_occupied (A.sketch seq.now) day }

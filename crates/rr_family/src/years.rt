@@ -17,7 +17,7 @@ pub struct YearMonthFamily {
 }
 
 impl YearMonthFamily {
-    /// The kind YM from this day, each n years: 1 to 99.
+    /// The kind YM from this day on, in days since 1970-01-01, each n years: 1 to 99.
     pub fn new(first_day: i64, interval: u32) -> Self
         requires near { IsDayWithin 0 first_day }
         requires low { 1 ≤ interval }
@@ -67,7 +67,7 @@ pub struct YearDayFamily {
 }
 
 impl YearDayFamily {
-    /// The kind YD from this day, each n years: 1 to 99.
+    /// The kind YD from this day on, in days since 1970-01-01, each n years: 1 to 99.
     pub fn new(first_day: i64, interval: u32) -> Self
         requires near { IsDayWithin 0 first_day }
         requires low { 1 ≤ interval }

@@ -101,7 +101,7 @@ module _ (s : Sketch) (w : Window) (f : FamilyKind) (interval : ℕ) (valid : Is
     interval_of_rule_divides low =
         interval_divides s w.first known.days divisors (family_freq f) 0 interval known.are (whole f) (omega arith) low in_unit
 
-    -- where all days up to the last one lie in one unit, a rule of interval 1 has the set too
+    -- if all days up to the last one lie in one unit, a rule of interval 1 has the set too
     module _ (near : IsNearWindow w) (zero : divisor_of divisors (family_freq f) 0 ≡ 0) (last : ℤ) (many : ℕ) (is : w.end ≡ Last last many) where
       ends : IsWindowEnd s w.first (Last last many)
       ends = subst (λ end. IsWindowEnd s w.first end) is has.end

@@ -100,7 +100,7 @@ filter_snoc p (x ∷ xs) y =
       | false ↦ filter_snoc p xs y
     ]
 
--- the best of the items whose number is 0 where they do not pass is the one that is chosen of those that pass
+-- the best of the items whose number is 0 if they do not pass is the one that is chosen of those that pass
 pub best_is_chosen : (number : ℕ → ℕ) (passes : ℕ → Bool) (n : ℕ)
     → best_below (λ index. cond (passes index) (number index) 0) n ≡ chosen number (filter passes (places_from 0 n))
 best_is_chosen number passes zero = best_zero (λ index. cond (passes index) (number index) 0)

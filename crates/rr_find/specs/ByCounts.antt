@@ -13,7 +13,7 @@ use Rattle.rr_model.specs.declared.vcal.FamilyKind.{FamilyKind}
 abbrev pub days_of_item : FamilyKind → (ℕ → ℕ) → ℕ → ℕ
 days_of_item f days index = sum_below (many_sorts f) (λ sort. if has_sort f sort index then days sort else 0)
 
--- what an item adds: nothing where one of its sorts has a day that is not occupied
+-- what an item adds: nothing if one of its sorts has a day that is not occupied
 abbrev pub gain_of_item : FamilyKind → (ℕ → ℕ) → (ℕ → ℕ) → ℕ → ℕ
 gain_of_item f left free index = if days_of_item f free index == 0 then days_of_item f left index else 0
 
@@ -22,12 +22,12 @@ abbrev pub number_at : (ℕ → ℕ) → Option ℕ → ℕ
 number_at number None = 0
 number_at number (Some index) = number index
 
--- the first of the first n items that has the greatest number; None where all numbers are 0
+-- the first of the first n items that has the greatest number; None if all numbers are 0
 unfoldable pub best_below : (ℕ → ℕ) → ℕ → Option ℕ
 best_below number zero = None
 best_below number (suc n) = if nat_lt (number_at number (best_below number n)) (number n) then Some n else best_below number n
 
--- the first item with no free day and the most occupied days left; None where no such item has one left
+-- the first item with no free day and the most occupied days left; None if no such item has one left
 abbrev pub best_index : FamilyKind → (ℕ → ℕ) → (ℕ → ℕ) → Option ℕ
 best_index f left free = best_below (gain_of_item f left free) (many_items f)
 
@@ -60,7 +60,7 @@ IsTakenFrom f index old new = (sort : ℕ) → sort < many_sorts f → new sort 
 abbrev pub IsClear : FamilyKind → (ℕ → ℕ) → Type 0
 IsClear f left = (sort : ℕ) → sort < many_sorts f → left sort ≡ 0
 
--- the items that are taken until none adds a day, or none where a day is left
+-- the items that are taken until none adds a day, or none if a day is left
 abbrev pub IsAnswerOf : FamilyKind → (ℕ → ℕ) → List ℕ → Option (List Item) → Type 0
 IsAnswerOf f occupied taken None = IsClear f (days_left f occupied taken) → ⊥
 IsAnswerOf f occupied taken (Some items) = IsClear f (days_left f occupied taken) × (items ≡ items_of f taken)

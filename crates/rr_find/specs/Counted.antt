@@ -10,7 +10,7 @@ use Rattle.rr_find.specs.declared.tallies.Counts.{Counts}
 abbrev pub count_in : List ℕ → ℕ → ℕ
 count_in counts = λ sort. get_or counts sort 0
 
--- the count of this sort, if there is one, is one more where `counts` is true; each other count is as before
+-- the count of this sort, if there is one, is one more if `counts` is true; each other count is as before
 abbrev pub IsCountedOn : List ℕ → List ℕ → Option ℕ → Bool → Type 0
 IsCountedOn old new sort counts = (length new ≡ length old) × ((k : ℕ)
     → get_or new k 0 ≡ get_or old k 0 + one_if (sort_passes (λ j. k == j) sort && counts))
@@ -42,7 +42,7 @@ pub record HasMixed (sort_of : ℤ → Option ℕ) (occupied : ℤ → Bool) (fi
   pub some_occupied : 1 ≤ days_of_sort sort_of occupied first days sort
   pub some_free : 1 ≤ days_of_sort sort_of (λ d. not (occupied d)) first days sort
 
--- of a day: if true, it has a sort where it is occupied; if false, it is occupied and has no sort, or some sort has an occupied
+-- of a day: if true, it has a sort if it is occupied; if false, it is occupied and has no sort, or some sort has an occupied
 -- and a free day counted
 abbrev pub IsDayResult : Bool → List ℕ → List ℕ → Option ℕ → Bool → Type 0
 IsDayResult true occupied_counts free_counts sort occupied = occupied ≡ true → has_some_sort sort ≡ true
@@ -55,7 +55,7 @@ pub record IsTallied (occupied_counts free_counts : List ℕ) (sort_of : ℤ →
   pub of_free : AreCounts free_counts sort_of (λ d. not (occupied d)) first days
   pub sorted : AreSorted sort_of occupied first days
 
--- a day is counted to its sort, in the lists of a family from a start day on, where it passes a test
+-- a day is counted to its sort, in the lists of a family from a start day on, if it passes a test
 abbrev pub IsDayCounted : (ℤ → Bool) → FamilyKind → ℕ → ℤ → ℤ → List ℕ → List ℕ → Type 0
 IsDayCounted test kind interval start day old new = IsCountedOn old new (sort_of_day kind interval start day) (test day)
 
@@ -73,7 +73,7 @@ abbrev pub IsWalked : Bool → List ℕ → List ℕ → (ℤ → Option ℕ) �
 IsWalked true occupied_counts free_counts sort_of occupied first days = IsTallied occupied_counts free_counts sort_of occupied first days
 IsWalked false occupied_counts free_counts sort_of occupied first days = HasUnsorted sort_of occupied first days ⊎ HasMixed sort_of occupied first days
 
--- the days of the window by sort, or none where two days tell that no list has them
+-- the days of the window by sort, or none if two days tell that no list has them
 abbrev pub IsTally : (ℤ → Option ℕ) → (ℤ → Bool) → ℤ → ℕ → Option Counts → Type 0
 IsTally sort_of occupied first days None = HasUnsorted sort_of occupied first days ⊎ HasMixed sort_of occupied first days
 IsTally sort_of occupied first days (Some counts) = IsTallied counts.occupied counts.free sort_of occupied first days

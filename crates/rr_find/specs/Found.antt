@@ -18,7 +18,7 @@ use Rattle.rr_model.specs.declared.sketch.Sketch.{Sketch}
 use Rattle.rr_model.specs.declared.vcal.FamilyKind.{FamilyKind}
 use Rattle.rr_model.specs.declared.vcal.VRule.{VRule}
 
--- the first rule that has the occurrences, and none exactly where no rule has them
+-- the first rule that has the occurrences, and none exactly if no rule has them
 abbrev pub IsFound : Occurrences → Option Found → Type 0
 IsFound P None = (rule : VRule) (kind : Kind) (start : ℤ) → IsRuleOf P rule kind start → ⊥
 IsFound P (Some found) = IsFirstRule P found.rule found.kind found.start
@@ -50,7 +50,7 @@ found_of w f interval items = record {
   rule = vrule f interval items (end_of w.end);
 }
 
--- the items of a rule that has the set, and none exactly where no rule of this kind and interval has it
+-- the items of a rule that has the set, and none exactly if no rule of this kind and interval has it
 abbrev pub IsListOf : Sketch → Window → FamilyKind → ℕ → Option (List Item) → Type 0
 IsListOf s w f interval None = HasNoRuleOfFamily s f interval
 IsListOf s w f interval (Some items) = HasListedRule s (found_of w f interval items)
@@ -60,12 +60,12 @@ abbrev pub IsFoundOf : Sketch → FamilyKind → ℕ → Option Found → Type 0
 IsFoundOf s f interval None = HasNoRuleOfFamily s f interval
 IsFoundOf s f interval (Some found) = HasListedRule s found × (found.rule.family ≡ f) × (found.rule.interval ≡ interval)
 
--- how many days are read: up to the last one, or one cycle where it can be the set's
+-- how many days are read: up to the last one, or one cycle if it can be the set's
 abbrev pub days_up_to : ℤ → ℕ → WindowEnd → Option ℕ
 days_up_to first cycle (Last day many) = Some (window_days first day)
 days_up_to first cycle (Cycle period start) = if int_eq start first && (cycle % period == 0) then Some cycle else None
 
--- how many days are read for a kind and interval: up to the last one, or one cycle where it can be the set's
+-- how many days are read for a kind and interval: up to the last one, or one cycle if it can be the set's
 abbrev pub days_to_read : Window → FamilyKind → ℕ → Option ℕ
 days_to_read w f interval = days_up_to w.first (family_cycle f interval) w.end
 

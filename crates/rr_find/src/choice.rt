@@ -9,7 +9,7 @@ use rr_family::{has_sort, item_at, many_items, many_sorts};
 use rr_model::{FamilyKind, Items, NoMemory};
 use std::alloc::Global;
 
-/// The items that are taken, or none where they do not have all occupied days.
+/// The items that are taken, or none if they do not have all occupied days.
 ///
 /// Again and again the item is taken that has no free day and most occupied days that no taken item has, the first of
 /// them on a tie, until none has a further day.
@@ -36,7 +36,7 @@ pub(crate) fn taken_items(
     }
 }
 
-// The index of the item that adds most, the first of them on a tie; none where no item adds a day.
+// The index of the item that adds most, the first of them on a tie; none if no item adds a day.
 fn best_index(kind: FamilyKind, left: &[u64], free: &[u64]) -> Option<u16>
     requires sorts { many_sorts kind ≤ length left.now }
     requires free_sorts { many_sorts kind ≤ length free.now }
@@ -56,7 +56,7 @@ fn best_index(kind: FamilyKind, left: &[u64], free: &[u64]) -> Option<u16>
     best
 }
 
-// How many days an item adds; none where one of its sorts has a free day.
+// How many days an item adds; none if one of its sorts has a free day.
 fn gain_of_item(kind: FamilyKind, left: &[u64], free: &[u64], index: u16) -> u64
     requires index { index < 366 }
     requires sorts { many_sorts kind ≤ length left.now }
@@ -92,7 +92,7 @@ fn has_own_sorts(kind: FamilyKind) -> bool
     matches!(kind, FamilyKind::W | FamilyKind::YM | FamilyKind::YD)
 }
 
-// How many days the one sort of an item has, where each item has that of its own index alone.
+// How many days the one sort of an item has, if each item has that of its own index alone.
 fn days_of_own_sort(kind: FamilyKind, counts: &[u64], index: u16) -> u64
     requires own { (sort index : ℕ) → has_sort kind sort index ≡ (index == sort) }
     requires sorts { many_sorts kind ≤ length counts.now }

@@ -1,4 +1,4 @@
-//! The first rule of vCalendar 1.0 that has the occurrences of a set, or none where no rule has them.
+//! The first rule of vCalendar 1.0 that has the occurrences of a set, or none if no rule has them.
 #![tactic(auto)]
 
 mod choice;

@@ -16,9 +16,9 @@ use rr_num::interval_cycle;
 use rr_word::DaySeq;
 use std::alloc::Global;
 
-/// The items of a rule of this kind and interval that has the set, or none where no such rule has it.
+/// The items of a rule of this kind and interval that has the set, or none if no such rule has it.
 ///
-/// The window is that of the set. Its days are read once, and not at all where its period or its start tells that no such
+/// The window is that of the set. Its days are read once, and not at all if its period or its start tells that no such
 /// rule has the set.
 pub(crate) fn list_of<A: DaySeq>(
     alloc: Global,
@@ -42,7 +42,7 @@ pub(crate) fn list_of<A: DaySeq>(
     }
 }
 
-// How many days tell whether a list has the set: up to its last day, or one cycle; none where the cycle cannot be the
+// How many days tell whether a list has the set: up to its last day, or one cycle; none if the cycle cannot be the
 // set's.
 fn days_to_read(window: &Window, kind: FamilyKind, interval: u32) -> Option<u64>
     requires near { IsNearWindow window.now }

@@ -24,11 +24,11 @@ const KINDS: [FamilyKind; 6] = [
     FamilyKind::YD,
 ];
 
-/// The first rule that has the occurrences of a set, or none exactly where no rule has them: the set has two seconds on
+/// The first rule that has the occurrences of a set, or none exactly if no rule has them: the set has two seconds on
 /// its days or begins outside the years 1 to 9999, or no list of items gives its days.
 ///
 /// Intervals are tried from 1 on, to 999 for D and W and to 99 for the other kinds; of one interval the kinds are tried
-/// in the order D, W, MD, MP, YM, YD. The rule has no end where the set has none, and else the number of its occurrences.
+/// in the order D, W, MD, MP, YM, YD. The rule has no end if the set has none, and otherwise the number of its occurrences.
 pub fn find<A: DaySeq>(alloc: Global, seq: &A) -> Result<Option<Found>, NoMemory>
     ensures { IfOk result (IsFound (StandsIn (A.sketch seq.now))) }
 {
@@ -45,7 +45,7 @@ pub fn find<A: DaySeq>(alloc: Global, seq: &A) -> Result<Option<Found>, NoMemory
     Ok(None)
 }
 
-// The first rule of one interval, where none of a lesser one has the set.
+// The first rule of one interval, if none of a lesser one has the set.
 fn find_at<A: DaySeq>(
     alloc: Global,
     seq: &A,
@@ -70,7 +70,7 @@ fn find_at<A: DaySeq>(
     Ok(None)
 }
 
-// The rule of one kind and interval, where none of a lesser interval has the set. No day is read where the divisor of the
+// The rule of one kind and interval, if none of a lesser interval has the set. No day is read if the divisor of the
 // kind's units leaves the interval out.
 fn find_of<A: DaySeq>(
     alloc: Global,

@@ -14,15 +14,15 @@ use rr_word::DaySeq;
 /// How many days of each sort a window has; a kind that tells fewer sorts apart uses the first few.
 #[derive(Drop)]
 pub(crate) struct Counts {
-    /// Of each sort how many days are occupied.
+    /// How many days of each sort are occupied.
     pub occupied: [u64; 366],
-    /// Of each sort how many days are not.
+    /// How many days of each sort are not.
     pub free: [u64; 366],
 }
 
 /// Counts the days of a window by their sorts for a series of this kind and interval that starts on its first day.
 ///
-/// None where no list of items has the days of the window, as two days tell: an occupied day that no item has, or an
+/// None if no list of items has the days of the window, as two days tell: an occupied day that no item has, or an
 /// occupied and a free day of one sort. The days after these are not read. It takes no memory.
 pub(crate) fn tally<A: DaySeq>(
     seq: &A,
@@ -85,7 +85,7 @@ fn counts_all_days<A: DaySeq>(
     true
 }
 
-// Counts a day to its sort; false where it is occupied and has no sort, or where its sort has days of both.
+// Counts a day to its sort; false if it is occupied and has no sort, or if its sort has days of both.
 fn counts_day<A: DaySeq>(
     seq: &A,
     kind: FamilyKind,
@@ -118,7 +118,7 @@ fn counts_day<A: DaySeq>(
     }
 }
 
-// One more of the sort, among the occupied days or among the free ones.
+// Counts a further day of the sort, among the occupied days or among the free ones.
 fn count_at(taken: bool, sort: u16, occupied: &mut [u64], free: &mut [u64])
     requires index { sort < length occupied.old }
     requires free_index { sort < length free.old }
@@ -134,7 +134,7 @@ fn count_at(taken: bool, sort: u16, occupied: &mut [u64], free: &mut [u64])
     }
 }
 
-// One more of the sort.
+// Counts a further day of the sort.
 fn count_one(counts: &mut [u64], sort: u16)
     requires index { sort < length counts.old }
     requires room { get_or counts.old sort 0 < 18_446_744_073_709_551_615 }

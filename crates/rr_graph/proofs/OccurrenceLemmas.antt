@@ -1,4 +1,4 @@
--- A valid event has the occurrences of its counterpart, and keeps them where it starts at the first of them.
+-- A valid event has the occurrences of its counterpart, and keeps them if it starts at the first of them.
 use Rattle.std.proofs.Common.{◌≡◌, ◌↔◌, ℤ, inl, inr, refl, sym, ap, ◌∙◌, subst}
 use Rattle.std.specs.Prelude.{unwrap_or}
 use Rattle.std.proofs.lemmas.Bool.{eq-eqb, and_from}

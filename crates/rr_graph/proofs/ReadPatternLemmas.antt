@@ -128,7 +128,7 @@ days_in-lie pattern n h =
     let names = and_then_some (option_and_then as_array (member_of (codes "daysOfWeek") pattern)) days_of_names n (ok_or_ok _ (BadMember of.DaysOfWeek) n h) in
     names-lie names.0 n names.2
 
--- ---- members with a value where they are missing
+-- ---- members with a value if they are missing
 
 named_or-all : {X : Type 0} (P : X → Type 0) (member : Member) (names : List ℕ → Option X) (missing : X) (o : Option Data) (x : X) → P missing
     → ((text : List ℕ) → names text ≡ Some x → P x) → named_or member names missing o ≡ Ok x → P x

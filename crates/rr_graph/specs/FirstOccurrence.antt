@@ -1,4 +1,5 @@
--- The first occurrence of an event, and where there is none (Microsoft Graph, recurrencePattern and recurrenceRange).
+-- The first occurrence of an event, and which recurrences have none (Microsoft Graph, recurrencePattern and
+-- recurrenceRange).
 use Rattle.std.specs.Prelude.{◌≡◌, ◌↔◌, ℤ, ◌≤ℤ◌, Err}
 use Rattle.rr_model.specs.Moment.Years.{IsInYears}
 use Rattle.rr_model.specs.declared.kind.Kind.TheVariants.{Days}
@@ -19,7 +20,7 @@ pub record IsFirstOccurrence (event : GraphEvent) (t : ℤ) : Type 0 where
 abbrev pub GraphCounterpartStartsFirst : Type 0
 GraphCounterpartStartsFirst = (event : GraphEvent) → IsValidGraphEvent event → IsFirstOccurrence event (series_of_graph event).start
 
--- A recurrence is refused for want of an occurrence exactly where no day of the years 1 to 9999 is one.
+-- A recurrence is refused for want of an occurrence exactly if no day of the years 1 to 9999 is one.
 abbrev pub RefusedWhereNoneOccurs : Type 0
 RefusedWhereNoneOccurs =
     (recurrence : Recurrence) → IsValidRange recurrence.range

@@ -24,7 +24,7 @@ started_at event start = record { kind = event.kind; start = start; repeat = rep
 abbrev pub GraphCounterpartIsSound : Type 0
 GraphCounterpartIsSound = (event : GraphEvent) → IsValidGraphEvent event → IsSound (series_of_graph event)
 
--- A valid event keeps its occurrences where it starts at the first of them, the start of its counterpart.
+-- A valid event keeps its occurrences if it starts at the first of them, the start of its counterpart.
 abbrev pub MovingStartKeepsOccurrences : Type 0
 MovingStartKeepsOccurrences =
     (event : GraphEvent) (kind : Kind) (t : ℤ) → IsValidGraphEvent event

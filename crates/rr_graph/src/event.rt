@@ -88,7 +88,8 @@ fn bare_event_in(value: &Value) -> Result<GraphEvent, Refusal>
     })
 }
 
-/// What an object states: a bare recurrence where it has a pattern, and else an event; see `read`, which refuses in the same order.
+/// The event that an object states: a bare recurrence if it has a member `pattern`, and otherwise an event. The offset
+/// is local time less UTC in seconds. It refuses in the order of `read`.
 pub fn value_in(offset: Option<i32>, value: &Value) -> Result<GraphEvent, Refusal>
     ensures value { result
         ≡ by_pattern offset (member_of (codes "pattern") (view value.now)) (view value.now) }

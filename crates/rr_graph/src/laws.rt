@@ -13,7 +13,7 @@ pub fn counterpart_is_sound()
     ensures { GraphCounterpartIsSound }
 {}
 
-/// A valid event keeps its occurrences where its start and its startDate are moved to the first of them.
+/// A valid event keeps its occurrences if its start and its startDate are moved to the first of them.
 pub fn moving_the_start_keeps_occurrences()
     ensures { MovingStartKeepsOccurrences }
 {}
@@ -23,12 +23,12 @@ pub fn counterpart_starts_first()
     ensures { GraphCounterpartStartsFirst }
 {}
 
-/// A recurrence is refused as `NoOccurrence` exactly where no day of the years 1 to 9999 is one of its pattern and range.
+/// A recurrence is refused as `NoOccurrence` exactly if no day of the years 1 to 9999 is one of its pattern and range.
 pub fn refused_where_none_occurs()
     ensures { RefusedWhereNoneOccurs }
 {}
 
-/// What is written for a valid event that repeats is read back as the event, where its startDate is a day of its pattern.
+/// What is written for a valid event that repeats is read back as the event, if its startDate is a day of its pattern.
 pub fn graph_is_read_back()
     ensures { GraphIsReadBack }
 {}

@@ -23,7 +23,7 @@ pub(crate) fn json_object(alloc: Global, text: &[u8]) -> Result<Value, Fault>
     }
 }
 
-/// The member of that name, where there is one that is not null.
+/// The member of that name, if there is one that is not null.
 pub(crate) fn find_member<'v>(value: &'v Value, name: &str) -> Option<&'v Value>
     ensures { option_map (λ v. view v.now) result ≡ member_of name.now (view value.now) }
 {
@@ -31,7 +31,7 @@ pub(crate) fn find_member<'v>(value: &'v Value, name: &str) -> Option<&'v Value>
     if found.is_null() { None } else { Some(found) }
 }
 
-/// The value where it is an object, or the refusal.
+/// The value if it is an object, or the refusal.
 #[tactic(auto, using(crate::proofs::JsonLemmas::object_or_object, crate::proofs::JsonLemmas::object_or_other))]
 pub(crate) fn object_or(value: &Value, refusal: Refusal) -> Result<&Value, Refusal>
     ensures { AnswersAs (λ v. view v.now) (object_or refusal (view value.now)) result }

@@ -161,7 +161,7 @@ fn days_in(form: Form, pattern: &Value) -> Result<u8, Refusal>
     }
 }
 
-// The first weekday of a week, Sunday where the member is missing.
+// The first weekday of a week, Sunday if the member is missing.
 #[tactic(auto, unfolding(rr_model::specs::Graph::Reading::first_day_in))]
 fn first_day_in(form: Form, pattern: &Value) -> Result<u8, Refusal>
     ensures { result ≡ if_used (uses_first_day form) 6 (first_day_in (view pattern.now)) }
@@ -182,7 +182,7 @@ fn index_of(name: &Value) -> Option<i8>
     index_named(name.as_str()?)
 }
 
-// The index, the first where the member is missing.
+// The index, the first if the member is missing.
 #[tactic(auto, unfolding(rr_model::specs::Graph::Reading::index_in))]
 fn index_in(form: Form, pattern: &Value) -> Result<i8, Refusal>
     ensures { result ≡ if_used (uses_index form) (pos 1) (index_in (view pattern.now)) }
@@ -251,7 +251,8 @@ fn members_in(pattern: &Value) -> Result<Pattern, Refusal>
     })
 }
 
-/// What a pattern states.
+/// The pattern that the members of an object state (Microsoft Graph, recurrencePattern), or the first refusal in the
+/// order of `read`. A member that is missing or null has its default.
 pub(crate) fn pattern_in(pattern: &Value) -> Result<Pattern, Refusal>
     ensures value { result ≡ pattern_of (view pattern.now) }
     ensures valid { IfOk result IsValidPattern }

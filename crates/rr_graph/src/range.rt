@@ -14,14 +14,14 @@ use rr_model::{Member, Range, RangeEnd, Refusal};
 use rr_text::extended;
 use serde_json::Value;
 
-/// How a range ends.
+/// How a range ends (Microsoft Graph, recurrenceRange, `type`).
 #[derive(Clone, Copy, Debug, PartialEq, Eq)]
 pub(crate) enum EndKind {
-    /// `noEnd`.
+    /// `noEnd`: it repeats for ever.
     NoEnd,
-    /// `endDate`.
+    /// `endDate`: on the date of the member `endDate`.
     EndDate,
-    /// `numbered`.
+    /// `numbered`: after as many occurrences as `numberOfOccurrences` states.
     Numbered,
 }
 

@@ -32,11 +32,11 @@ fn read_text(alloc: Global, text: &[u8], offset: Option<i32>) -> Result<GraphEve
 ///
 /// The first fault is the refusal. `NotText` comes for bytes that are no UTF-8, `BadJson` for a text that is no JSON, is
 /// nested more than 127 levels deep, or is no object. Of an event: `NoStart` without a `start`, then `BadMember` of
-/// `start` where it is no object, of `dateTime` where it is no moment of the years 1 to 9999, also by the offset, of
-/// `timeZone` where it is no text, of `isAllDay` where it is not true or false, and of `recurrence` where it is no object.
+/// `start` if it is no object, of `dateTime` if it is no moment of the years 1 to 9999, also by the offset, of
+/// `timeZone` if it is no text, of `isAllDay` if it is not true or false, and of `recurrence` if it is no object.
 /// Of a recurrence `BadMember` of `pattern` and of `range`; of its pattern `BadMember` of the first member that is missing
 /// or has no allowed value, in the order of `Member`, and with the interval `IntervalTooLarge`; then so of its range.
-/// At last `StartDiffers` where the date of an event's start is not the startDate, and `NoOccurrence` where no day of the
+/// At last `StartDiffers` if the date of an event's start is not the startDate, and `NoOccurrence` if no day of the
 /// years 1 to 9999 is one of the pattern and the range.
 #[tactic(auto, unfolding(rr_model::specs::Graph::Reading::reads_graph))]
 pub fn read(alloc: Global, bytes: &[u8], offset: Option<i32>) -> Result<GraphEvent, Fault>

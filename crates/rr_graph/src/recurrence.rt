@@ -13,12 +13,12 @@ use rr_pattern::first_repeat_day;
 use serde_json::Value;
 use std::marker::Model;
 
-/// A pattern within a range.
+/// What the member `recurrence` of an event states (Microsoft Graph, patternedRecurrence).
 #[derive(Drop)]
 pub(crate) struct Recurrence {
-    /// The pattern.
+    /// Which days of which periods repeat.
     pub(crate) pattern: Pattern,
-    /// The range.
+    /// From which day on, and until when.
     pub(crate) range: Range,
 }
 
@@ -44,7 +44,7 @@ pub(crate) fn recurrence_in(value: &Value) -> Result<Recurrence, Refusal>
     Ok(Recurrence { pattern, range })
 }
 
-/// The recurrence, where it has an occurrence in the years 1 to 9999.
+/// The recurrence, if it has an occurrence in the years 1 to 9999.
 pub(crate) fn to_repeat(recurrence: &Recurrence) -> Result<Repeat, Refusal>
     requires pattern { IsValidPattern recurrence.now.pattern }
     requires range { IsValidRange recurrence.now.range }
@@ -59,7 +59,7 @@ pub(crate) fn to_repeat(recurrence: &Recurrence) -> Result<Repeat, Refusal>
     }
 }
 
-/// The recurrence, where its range begins on the start's day.
+/// The recurrence, if its range begins on the start's day.
 pub(crate) fn to_repeat_from(day: i64, recurrence: &Recurrence) -> Result<Repeat, Refusal>
     requires pattern { IsValidPattern recurrence.now.pattern }
     requires range { IsValidRange recurrence.now.range }

@@ -122,7 +122,7 @@ fn set_positions_of(alloc: Global, pattern: &Pattern) -> Result<Numbers, NoMemor
     Ok(positions)
 }
 
-// Weeks begin as a weekly pattern says, and else on Monday.
+// Weeks begin as a weekly pattern says, and otherwise on Monday.
 fn week_start_of(pattern: &Pattern) -> u8
     ensures { result ≡ week_start_of pattern.now.form pattern.now.first_day }
 {

@@ -40,7 +40,7 @@ fn one_rule(alloc: Global, rule: Rule) -> Result<Rules, NoMemory>
     Ok(rules)
 }
 
-// The first day, or the start's where there is none.
+// The first day, or the start's if there is none.
 fn first_day(pattern: &Pattern, range: &Range) -> i64
     requires interval { 1 ≤ pattern.now.interval }
     requires start { IsInYears Days range.now.start_day }

@@ -85,7 +85,7 @@ pub(crate) fn start_moment(
     turned_start(is_utc, offset, stamp.at).ok_or(Refusal::BadMember(Member::DateTime))
 }
 
-/// The zone's name is a text, where it stands.
+/// Judges the name of a zone: `BadMember` comes if it is there and no text.
 #[tactic(auto, using(crate::proofs::JsonLemmas::is_text_some))]
 pub(crate) fn judge_zone(start: &Value) -> Result<(), Refusal>
     ensures { result ≡ holds_or (is_text_or_missing (member_of (codes "timeZone") (view start.now)))
@@ -97,7 +97,7 @@ pub(crate) fn judge_zone(start: &Value) -> Result<(), Refusal>
     }
 }
 
-/// `isAllDay` is true or false, where it stands.
+/// Judges `isAllDay`: `BadMember` comes if it is there and neither true nor false.
 #[tactic(auto, using(crate::proofs::JsonLemmas::is_flag_some))]
 pub(crate) fn judge_flag(event: &Value) -> Result<(), Refusal>
     ensures { result ≡ holds_or (is_flag_or_missing (member_of (codes "isAllDay") (view event.now)))

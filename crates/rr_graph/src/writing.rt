@@ -9,7 +9,7 @@ use crate::written::event_value;
 use rr_model::{GraphEvent, Kind, NoMemory, Pattern, Range, Repeat};
 use std::alloc::Global;
 
-// One line of compact JSON.
+// The text of a value as one line of compact JSON.
 fn text_of(
     alloc: Global,
     kind: Kind,
@@ -33,7 +33,7 @@ fn text_of(
 /// A series of dates is written as a bare recurrence, and one of moments as an event that is not all day, with a start in
 /// local time without a fraction and without a `timeZone`. The text is compact JSON in one line, with the names of members
 /// in rising order of their bytes and a line feed at its end. A pattern has the members that its type uses, `interval` also
-/// where it is 1, and `firstDayOfWeek` and `index` also where they are what a reader takes for a missing one; the days go
+/// if it is 1, and `firstDayOfWeek` and `index` also if they are what a reader takes for a missing one; the days go
 /// from Sunday to Saturday.
 pub fn write(alloc: Global, event: &GraphEvent) -> Result<Vec<u8>, NoMemory>
     requires valid { IsValidGraphEvent event.now }

@@ -178,7 +178,7 @@ fn put_pattern(
     }
 }
 
-// A pattern.
+// The object that states a pattern.
 fn pattern_value(alloc: Global, pattern: &Pattern) -> Result<Value, AllocError>
     ensures { IfOk result (λ value. view value ≡ pattern_data pattern.now) }
 {
@@ -246,7 +246,7 @@ fn put_range(alloc: Global, members: &mut Map<String, Value>, range: &Range) -> 
     }
 }
 
-// A range.
+// The object that states a range.
 fn range_value(alloc: Global, range: &Range) -> Result<Value, NoMemory>
     requires start { HasFourDigitYear range.now.start_day }
     requires end { IsRangeEnd range.now.end }

@@ -38,7 +38,7 @@ abbrev pub stamp_by : Bool → Stamp → Stamp
 stamp_by true stamp = record { kind = Days; at = day_part Moments stamp.at; utc = stamp.utc }
 stamp_by false stamp = stamp
 
--- from one moment to another: of an event that is all day so many days, otherwise so many seconds
+-- from one moment to another: of an event that is all day in days, otherwise in seconds
 abbrev pub span_by : Bool → Option Stamp → Option Stamp → Option Length
 span_by all_day (Some start) (Some end) = span_between (stamp_by all_day start) (stamp_by all_day end)
 span_by all_day start end = None

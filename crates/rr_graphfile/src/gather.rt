@@ -12,18 +12,18 @@ use serde_json::Value;
 /// An event with its number in its list, from 1.
 #[derive(Clone, Copy)]
 pub(crate) struct Placed<'v> {
-    /// The number.
+    /// Its number in the list, from 1.
     pub(crate) place: u64,
-    /// The event.
+    /// The event itself, an object of the list.
     pub(crate) event: &'v Value,
 }
 
 /// The series of a key, if it has one, and the number of its first instance that stands alone.
 #[derive(Clone, Copy)]
 pub(crate) struct Gathered<'v> {
-    /// The series.
+    /// The event that is the series or stands alone.
     pub(crate) series: Option<Placed<'v>>,
-    /// The number.
+    /// The number of the first instance that stands in the list as an event of its own.
     pub(crate) instance: Option<u64>,
 }
 
@@ -41,7 +41,8 @@ fn with_series<'v>(gathered: Gathered<'v>, placed: Placed<'v>) -> Result<Gathere
     }
 }
 
-// With one event more, by its type. An instance that stands alone says nothing that its series does not list.
+// What is gathered of a key with a further event, by its type. An instance that stands alone says nothing that its
+// series does not list.
 fn with_placed<'v>(gathered: Gathered<'v>, placed: Placed<'v>) -> Result<Gathered<'v>, KeyRefusal>
     ensures { AnswersAs gathered_in (with_placed (gathered_in gathered.entry)
         (placed_in placed.entry)) result }

@@ -27,11 +27,11 @@ use std::alloc::Global;
 /// Where instances are judged: beside the start of their series, whose event has this number in its list.
 #[derive(Clone, Copy, Debug, PartialEq, Eq)]
 pub(crate) struct Beside {
-    /// The number.
+    /// The number of the series' event in its list, from 1.
     pub(crate) place: u64,
     /// Whether the series has dates or moments.
     pub(crate) kind: Kind,
-    /// The start.
+    /// The start of the series, in days or seconds since 1970-01-01.
     pub(crate) start: i64,
 }
 

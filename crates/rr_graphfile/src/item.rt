@@ -13,13 +13,13 @@ use serde_json::Value;
 /// What an event of a list is (Microsoft Graph, event, `type`).
 #[derive(Clone, Copy, Debug, PartialEq, Eq)]
 pub enum EventType {
-    /// One event, which does not repeat.
+    /// `singleInstance`: one event, which does not repeat.
     Single,
-    /// A series.
+    /// `seriesMaster`: a series, which repeats.
     Master,
-    /// An instance of a series as this states it.
+    /// `occurrence`: an instance of a series as this states it.
     Occurrence,
-    /// A moved or changed instance of a series.
+    /// `exception`: a moved or changed instance of a series.
     Exception,
 }
 

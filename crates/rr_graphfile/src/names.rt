@@ -15,7 +15,7 @@ use std::collections::BTreeMap;
 /// The name of the first event of each id.
 type NameMap<'v> = BTreeMap<&'v [u8], &'v [u8]>;
 
-// Takes in one event more, if it is the first of its id.
+// Takes in a further event, if it is the first of its id.
 fn note<'v>(names: &mut NameMap<'v>, event: &'v Value) -> Result<(), NoMemory>
     ensures { OnOk result (Notes names.old (view event.now) names.new) }
 {

@@ -92,7 +92,7 @@ fn series_turned(alloc: Global, turning: Turning, placed: Placed) -> Result<KeyS
     })
 }
 
-// What a series states.
+// What a series states, its moments of UTC turned as its zone, or the stated offset, tells.
 fn series_stated(
     alloc: Global,
     zones: &ZoneMap,

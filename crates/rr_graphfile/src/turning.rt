@@ -63,7 +63,7 @@ fn is_named(zone: &Offsets, at: i64) -> bool
     zone.true_moment(local_in(zone, at)) == at
 }
 
-// The same of a zone that may be known.
+// Whether local time of a zone names a moment of UTC; false if the zone is not known.
 fn is_named_in(zone: Option<&Offsets>, at: i64) -> bool
     requires { IsInYears Moments at }
     ensures { result ≡ is_named_in (ahead_in zone.entry) at }

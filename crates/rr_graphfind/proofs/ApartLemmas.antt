@@ -87,7 +87,7 @@ form_same form.RelativeMonthly p interval first_day d = refl
 form_same form.AbsoluteYearly p interval first_day d = refl
 form_same form.RelativeYearly p interval first_day d = refl
 
--- where both periods count, the day is one of both or of none
+-- if both periods count, the day is one of both or of none
 same_day : (p : Pattern) (interval first_day : ℕ) (first d : ℤ)
     → divides interval (period_of p.form first_day d -ℤ period_of p.form first_day first) ≡ true
     → divides p.interval (period_of p.form p.first_day d -ℤ period_of p.form p.first_day first) ≡ true
@@ -134,7 +134,7 @@ module _ (s : Sketch) (w : Window) (has : HasWindow s w) (p : Pattern) (m : Matc
   week_start : p.first_day < 7
   week_start = (let most = weekday_most (uses_first_day p.form) p.first_day m.agrees.valid.first_day in omega (arith, most))
 
-  -- with the first day of the week that comes first, where each week counts
+  -- with the first day of the week that comes first, if each week counts
   abbrev from_sunday : Pattern
   from_sunday = with_start p p.interval 6
 
@@ -168,7 +168,7 @@ module _ (s : Sketch) (w : Window) (has : HasWindow s w) (p : Pattern) (m : Matc
         interval_divides s w.first known.days divisors (form_freq p.form) p.first_day p.interval known.are (whole p.form) week_start
         m.agrees.valid.interval_low in_unit
 
-    -- where all days up to the last one lie in one period, the pattern of interval 1 matches too
+    -- if all days up to the last one lie in one period, the pattern of interval 1 matches too
     pub interval_one_matches : (last : ℤ) (many : ℕ) → w.end ≡ Last last many → divisor_of divisors (form_freq p.form) p.first_day ≡ 0
         → Matches s w (with_start p 1 p.first_day)
     interval_one_matches last many is zero = record {
@@ -213,7 +213,7 @@ module _ (s : Sketch) (w : Window) (has : HasWindow s w) (p : Pattern) (m : Matc
 -- ---- none with these members
 
 module _ (s : Sketch) (w : Window) (p : Pattern) (has : HasWindow s w) (valid : IsValidPattern p) (before : NoneBefore (Matches s w) p) where
-  -- of the patterns with its first three members none matches, where the divisor of their periods leaves the interval out
+  -- of the patterns with its first three members none matches, if the divisor of their periods leaves the interval out
   pub none_left_out : (divisors : Divisors) (freq : Freq) → HasDivisors s w divisors → freq ≡ form_freq p.form
       → IsLeftOut w.end (divisor_of divisors freq p.first_day) p.interval → NoneWith 3 p (Matches s w)
   none_left_out divisors freq known is out q same m = by_case out
@@ -241,7 +241,7 @@ module _ (s : Sketch) (w : Window) (p : Pattern) (has : HasWindow s w) (valid : 
           (subst (λ g. q.interval ∣ g) same_divisor (interval_of_pattern_divides s w has q m divisors known)))
       by_case (inr one) = by_end w.end refl one.2 one.0 one.1
 
-  -- nor where each week counts, and the same weekdays were tried with weeks from Sunday
+  -- nor if each week counts, and the same weekdays were tried with weeks from Sunday
   pub none_from_other_days : p.interval ≡ 1 → p.first_day ≢ 6 → NoneWith 3 p (Matches s w)
   none_from_other_days one other q same m =
       let sunday = with_start q q.interval 6 in

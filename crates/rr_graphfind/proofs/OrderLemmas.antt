@@ -79,7 +79,7 @@ later_next (suc i) (x ∷ xs) [] l same at = absurd same
 later_next zero (x ∷ xs) (y ∷ ys) l same at = less_first x y _ (omega (arith, at))
 later_next (suc i) (x ∷ xs) (y ∷ ys) l same at = less_rest x y _ (sym same.0) (later_next i xs ys (omega (arith, l)) same.1 at)
 
--- of what comes later none is before that one, where none with its first numbers is
+-- of what comes later none is before that one, if none with its first numbers is
 none_between : (i : ℕ) (xs ys zs : List ℕ) → SameFirst i ys xs → number_at i ys ≡ number_at i xs + 1
     → (SameFirst (suc i) zs ys → NoneLess (drop (suc i) zs) (drop (suc i) ys)) → key_lt (take (suc i) xs) (take (suc i) zs) ≡ true → key_lt zs ys ≡ false
 none_between i [] ys zs same at least h = absurd (false≢true h)
@@ -175,7 +175,7 @@ RestIsLeast i next =
     (other : Pattern) → IsValidPattern other → SameMembers i other next → NoneLess (drop i (pattern_key other)) (drop i (pattern_key next))
 
 module _ (i : ℕ) (pattern : Pattern) where
-  -- where the next number of a member may stand, the first pattern with it is the next one
+  -- if the next number of a member may stand, the first pattern with it is the next one
   pub next_number : i < 7 → (next : Pattern) → IsValidPattern next → SameMembers i next pattern → member_at i next ≡ member_at i pattern + 1
       → RestIsLeast (suc i) next → IsFirstThat (IsLater (suc i) pattern) (Some next)
   next_number few next valid same at least = (
@@ -183,7 +183,7 @@ module _ (i : ℕ) (pattern : Pattern) where
     λ other h. none_between i (pattern_key pattern) (pattern_key next) (pattern_key other) same at (least other h.0) h.1,
   )
 
-  -- where none may have a greater one, it is the first after those that share one member less
+  -- if none may have a greater one, it is the first after those that share one member less
   module _ (most : (other : Pattern) → IsValidPattern other → SameMembers i other pattern → member_at i other ≤ member_at i pattern) where
     by_fewer : (other : Pattern) → IsLater (suc i) pattern other → IsLater i pattern other
     by_fewer other h =

@@ -26,11 +26,11 @@ module _ (s : Sketch) (w : Window) (p : Pattern) (cycle : ℕ) (e : cycle ≡ fo
   cycle_is : (q : Pattern) → SameMembers 2 q p → form_cycle q.form q.interval ≡ cycle
   cycle_is q h = ap (λ z. form_cycle z q.interval) (one_form q.form p.form h.1.0) ∙ ap (form_cycle p.form) h.0 ∙ sym e
 
-  -- where the cycle does not fit, none matches
+  -- if the cycle does not fit, none matches
   pub none_unfit : (FitsEnd w.end w.first cycle → ⊥) → NoneWith 3 p (Matches s w)
   none_unfit unfit q h m = unfit (subst (λ c. FitsEnd w.end w.first c) (cycle_is q (h.0, (h.1.0, tt))) m.fits)
 
-  -- where it fits, the days that are compared tell
+  -- if it fits, the days that are compared tell
   module _ (days : ℕ) (first : ℤ) (fits : FitsEnd w.end w.first cycle) (at : first ≡ w.first) (same : days ≡ days_compared w.end w.first cycle) where
     agrees_if : (q : Pattern) → SameMembers 2 q p → Matches s w q → AgreeWithin (is_pattern_day q first) (is_occupied s) first days
     agrees_if q h m =

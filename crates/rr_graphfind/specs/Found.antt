@@ -14,7 +14,7 @@ abbrev pub IsFirstRepeat : Occurrences → Repeat → Kind → ℤ → Type 0
 IsFirstRepeat P repeat.Once kind start = ⊥
 IsFirstRepeat P (repeat.Pattern pattern range) kind start = IsFirstPattern P pattern range kind start
 
--- the event of the first pattern and range that have the occurrences, or none where no pattern has them
+-- the event of the first pattern and range that have the occurrences, or none if no pattern has them
 abbrev pub IsGraphFound : Occurrences → Option GraphEvent → Type 0
 IsGraphFound P None = (pattern : Pattern) (range : Range) (kind : Kind) (start : ℤ) → IsPatternOf P pattern range kind start → ⊥
 IsGraphFound P (Some event) = IsFirstRepeat P event.repeat event.kind event.start

@@ -52,7 +52,7 @@ abbrev pub IsNext : {A : Type 0} → (A → Type 0) → (A → ℕ) → A → Op
 IsNext {A} MayStand place here None = (other : A) → MayStand other → place other ≤ place here
 IsNext {A} MayStand place here (Some next) = MayStand next × (place next ≡ place here + 1)
 
--- 1 where the member is used, and else 0
+-- 1 if the member is used, and otherwise 0
 abbrev pub one_if_used : Bool → ℕ
 one_if_used true = 1
 one_if_used false = 0

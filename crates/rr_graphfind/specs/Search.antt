@@ -31,7 +31,7 @@ pub record Agrees (s : Sketch) (first : ℤ) (days : ℕ) (pattern : Pattern) : 
 abbrev pub counts_on : Pattern → ℤ → ℤ → Bool
 counts_on pattern first d = divides pattern.interval (period_of pattern.form pattern.first_day d -ℤ period_of pattern.form pattern.first_day first)
 
--- where a set is endless, its least period divides the cycle and its least start is the first day
+-- if a set is endless, its least period divides the cycle and its least start is the first day
 abbrev pub FitsEnd : WindowEnd → ℤ → ℕ → Type 0
 FitsEnd (Last day many) first cycle = ⊤
 FitsEnd (Cycle period start) first cycle = (period ∣ cycle) × (start ≡ first)
@@ -51,12 +51,12 @@ abbrev pub EndsAfter : ℤ → WindowEnd → Type 0
 EndsAfter first (Last day many) = first ≤ℤ day
 EndsAfter first (Cycle period start) = ⊤
 
--- how many days are compared where the cycle fits
+-- how many days are compared if the cycle fits
 abbrev pub IsDaysCompared : Window → ℕ → Option ℕ → Type 0
 IsDaysCompared w cycle None = FitsEnd w.end w.first cycle → ⊥
 IsDaysCompared w cycle (Some days) = FitsEnd w.end w.first cycle × (days ≡ days_compared w.end w.first cycle)
 
--- the days that are compared where the cycle fits
+-- the days that are compared if the cycle fits
 abbrev pub IsStretchOf : Window → ℕ → Option Stretch → Type 0
 IsStretchOf w cycle None = FitsEnd w.end w.first cycle → ⊥
 IsStretchOf w cycle (Some stretch) =

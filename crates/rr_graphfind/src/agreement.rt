@@ -15,11 +15,11 @@ use rr_word::DaySeq;
 /// The days of a set on which patterns are compared with it.
 #[derive(Clone, Copy)]
 pub(crate) struct Stretch {
-    /// The first of them.
+    /// The first of the days that are compared.
     pub start: Day,
     /// One of them that tells many patterns apart, which is compared before the others.
     pub probe: Day,
-    /// How many they are.
+    /// How many days are compared, at most 4,000,000,000.
     pub days: u64,
     ghost near: { IsNearDay start.number },
     ghost few: { days ≤ 4_000_000_000 },
@@ -60,7 +60,7 @@ fn agrees_throughout<A: DaySeq>(seq: &A, pattern: &Pattern, start: &Day, days: u
     true
 }
 
-// Whether the day is one of the pattern exactly where something occurs on it.
+// Whether the day is one of the pattern exactly if something occurs on it.
 fn is_alike<A: DaySeq>(seq: &A, pattern: &Pattern, start: &Day, day: &Day) -> bool
     requires interval { 1 ≤ pattern.now.interval }
     requires near { IsDayWithin 0 day.now.number }

@@ -15,7 +15,7 @@ pub(crate) enum Group {
     FirstDay,
     /// Those that also have one day of the month and one month.
     Month,
-    /// One pattern alone.
+    /// One pattern, with all its members.
     Alone,
 }
 
@@ -31,7 +31,7 @@ pub(crate) fn pattern_after(pattern: Pattern, group: Group) -> Option<Pattern>
     }
 }
 
-// After this one alone.
+// The next pattern after this one alone: with the next weekdays, if there are any.
 fn after_days(pattern: Pattern) -> Option<Pattern>
     requires { IsValidPattern pattern }
     ensures { IsFirstThat (IsLater 7 pattern) result }
@@ -126,7 +126,7 @@ fn after_interval(pattern: Pattern) -> Option<Pattern>
     None
 }
 
-// The next number of a member that is 1 at least where it is used.
+// The next number of a member that is 1 at least if it is used.
 fn number_after(used: bool, number: u8, high: u8) -> Option<u8>
     ensures { IsNext (LiesIfUsed used 1 high 0) (λ n. n) number result }
 {

@@ -1,4 +1,4 @@
-// Whether a pattern has a set; and where it has not, which others are known by the same look not to have it.
+// Whether a pattern has a set; and if it has not, which others are known by the same look not to have it.
 ghost use Rattle.std.specs.Prelude.{◌≡◌, ◌↔◌, ◌≤◌, ◌<◌, ◌==◌, IfSome, IsTrue, true, false, pos, ◌+ℤ◌, ◌≤ℤ◌, ◌<ℤ◌};
 ghost use Rattle.rr_family.specs.Divisors.{HasDivisors};
 ghost use Rattle.rr_family.specs.Lasting.{is_occupied};
@@ -24,9 +24,9 @@ use rr_word::DaySeq;
 /// The first two occupied days of a set.
 #[derive(Clone, Copy)]
 pub(crate) struct FirstDays {
-    /// The first.
+    /// The first occupied day of the set.
     pub first: Day,
-    /// The second, or the first where there is no other.
+    /// The second occupied day of the set, or the first if there is no other.
     pub second: Day,
 }
 
@@ -43,10 +43,11 @@ impl FirstDays {
     }
 }
 
-/// None where the pattern has the set; else a group of patterns with it, none of which has the set.
+/// Which patterns are known not to have the set by the same look as this one: a group with it, or `None` if it has the
+/// set.
 ///
-/// No earlier pattern has the set. What costs least and tells most is asked first: the divisors of the set's units, the cycle,
-/// the month of the first day, and then the days.
+/// No earlier pattern has the set. What costs least and tells most is asked first: the divisors of the set's units, the
+/// cycle, the month of the first day, and then the days.
 pub(crate) fn refusal<A: DaySeq>(
     seq: &A,
     window: &Window,
@@ -94,7 +95,7 @@ fn is_passed_over(window: &Window, divisors: &Divisors, pattern: &Pattern) -> bo
     )
 }
 
-// Whether a day is occupied and lies in another month than the pattern's, where the type uses it, so that no pattern with
+// Whether a day is occupied and lies in another month than the pattern's, if the type uses it, so that no pattern with
 // this type and month has the set.
 fn is_out_of_month<A: DaySeq>(seq: &A, pattern: &Pattern, day: &Day) -> bool
     requires near { IsDayWithin 0 day.now.number }
@@ -116,7 +117,7 @@ fn form_cycle(form: Form, interval: u32) -> u64
     interval_cycle(form_freq(form), interval)
 }
 
-// The days on which patterns of this cycle are compared, where one of them may have the set.
+// The days on which patterns of this cycle are compared, if one of them may have the set.
 fn stretch_of(window: &Window, first_days: &FirstDays, cycle: u64) -> Option<Stretch>
     requires near { IsNearWindow window.now }
     requires first_days { first_days.now.first.number ≡ window.now.first }
@@ -160,7 +161,7 @@ fn fits_cycle(first: i64, period: u64, start: i64, cycle: u64) -> bool
     start == first && cycle % period == 0
 }
 
-// The second occupied day where it is one of the days that are compared, and else the first.
+// The second occupied day if it is one of the days that are compared, and otherwise the first.
 fn probe(first_days: &FirstDays, days: u64) -> Day
     requires some { 1 ≤ days }
     requires few { days ≤ 4_000_000_000 }

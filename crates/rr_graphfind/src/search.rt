@@ -14,7 +14,7 @@ use rr_family::{Divisors, Window, WindowEnd, divisors_of, window_of};
 use rr_model::{Form, GraphEvent, Pattern, Range, RangeEnd, Repeat, moment_at};
 use rr_word::DaySeq;
 
-/// The event of Microsoft Graph that has the occurrences of a set; None exactly where no pattern and range have them.
+/// The event of Microsoft Graph that has the occurrences of a set; None exactly if no pattern and range have them.
 ///
 /// Patterns are tried by interval, from 1 on, then by type (daily, weekly, absoluteMonthly, relativeMonthly,
 /// absoluteYearly, relativeYearly), firstDayOfWeek from Sunday, dayOfMonth, month, index (first to fourth, last), and
@@ -51,7 +51,7 @@ fn event_of(window: &Window, pattern: Pattern) -> GraphEvent
     }
 }
 
-// The first pattern that has the set. Patterns are tried in their order; where one has it not, the next that is tried comes
+// The first pattern that has the set. Patterns are tried in their order; if one has it not, the next that is tried comes
 // after all those that are known by the same look not to have it.
 fn first_pattern<A: DaySeq>(seq: &A, window: &Window, divisors: &Divisors) -> Option<Pattern>
     requires known { HasWindow (A.sketch seq.now) window.now }

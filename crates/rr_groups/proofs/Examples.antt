@@ -25,7 +25,7 @@ twice_in_b = refl
 second : IsPair false in_a in_b (record { a = 2; b = 1 })
 second = record { key = Line 7; place = 1; of_a = refl; of_b = refl; as_often = refl; once = λ only. absurd (true≢false (sym only)) }
 
--- a key that each has once makes a pair also where it must be the only one
+-- a key that each has once makes a pair also if it must be the only one
 only_one : IsPair true in_a in_b (record { a = 1; b = 2 })
 only_one = record { key = Number 2; place = 0; of_a = refl; of_b = refl; as_often = refl; once = λ _. refl }
 

@@ -11,7 +11,7 @@ use std::alloc::Global;
 pub struct Entry {
     /// What it is found again by.
     pub key: Key,
-    /// The calendar.
+    /// Whether it is of calendar A or of calendar B.
     pub side: Side,
     /// Its index in its calendar.
     pub index: usize,
@@ -45,7 +45,7 @@ pub fn sorted_entries(alloc: Global, a: &[Key], b: &[Key]) -> Result<Vec<Entry>,
     Ok(entries)
 }
 
-/// How many entries at the front have this key.
+/// How many of the entries at the front have this key, before the first that has another.
 pub fn count_of_key(key: &Key, entries: &[Entry]) -> usize
     ensures { result ≡ length (take_while (has_key key.now) entries.now) }
 {
@@ -55,7 +55,7 @@ pub fn count_of_key(key: &Key, entries: &[Entry]) -> usize
         .count()
 }
 
-/// How many entries at the front are of A.
+/// How many of the entries at the front are of A, before the first of B.
 pub fn count_of_a(entries: &[Entry]) -> usize
     ensures { result ≡ length (take_while is_of_a entries.now) }
 {
@@ -65,7 +65,7 @@ pub fn count_of_a(entries: &[Entry]) -> usize
         .count()
 }
 
-/// The indexes of entries.
+/// The index of each entry in its calendar, in the order of the entries.
 pub fn entry_indexes(alloc: Global, entries: &[Entry]) -> Result<Vec<usize>, NoMemory>
     ensures { IfOk result (λ indexes. indexes.items ≡ indexes_in entries.now) }
 {

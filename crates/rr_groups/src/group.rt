@@ -11,7 +11,7 @@ use std::alloc::Global;
 /// The events of one key, by their indexes in two lists of keys.
 #[derive(Drop)]
 pub struct Group {
-    /// The key.
+    /// The key that all these events have.
     pub key: Key,
     /// The indexes in A, in their order.
     pub a: Vec<usize>,

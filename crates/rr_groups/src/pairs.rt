@@ -11,9 +11,9 @@ use std::alloc::Global;
 /// An index of one list beside an index of another.
 #[derive(Clone, Copy)]
 pub struct IndexPair {
-    /// That of A.
+    /// An index in the list of A.
     pub a: usize,
-    /// That of B.
+    /// An index in the list of B.
     pub b: usize,
 }
 

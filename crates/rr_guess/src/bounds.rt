@@ -14,7 +14,7 @@ pub(crate) struct Looks {
 }
 
 impl Looks {
-    /// None has been looked at.
+    /// A count at which no day has been looked at yet.
     pub(crate) fn new() -> Looks {
         Looks { left: MAX_LOOKS }
     }

@@ -15,25 +15,25 @@ pub(crate) const FIRST_DAYS: [u8; 7] = [6, 0, 1, 2, 3, 4, 5];
 pub(crate) struct Here {
     /// Its index in the row.
     pub index: u32,
-    /// The day.
+    /// The day, in days since 1970-01-01, with its date and its weekday.
     pub day: Day,
-    /// The place of its month.
+    /// The place of its month among the months of the row.
     pub month: u32,
 }
 
 /// Which days of its units a pattern has.
 #[derive(Clone, Copy)]
 pub(crate) enum Members {
-    /// Each day.
+    /// Each day of its units, which are days themselves.
     Day,
-    /// Weekdays of a week.
+    /// Weekdays of each week that counts.
     Week {
         /// The first weekday of a week, from 0 for Monday.
         first_day: u8,
         /// The weekdays: the sum of 1 for Sunday, 2 for Monday, up to 64 for Saturday.
         weekdays: u8,
     },
-    /// A day of a month.
+    /// A day of each month that counts.
     Month(Pick),
 }
 
@@ -66,7 +66,7 @@ impl Candidate {
         }
     }
 
-    /// A day of months.
+    /// The pattern of the months that a type and an interval count, with one of their days.
     pub(crate) fn by_months(turn: &Turn, pick: Pick) -> Candidate {
         Candidate {
             turn: *turn,
@@ -74,7 +74,7 @@ impl Candidate {
         }
     }
 
-    /// The pattern, where it has a day of this month.
+    /// The pattern, if it has a day of this month.
     pub(crate) fn pattern(&self, month: u8) -> Pattern {
         let form = self.turn.form;
         let month = if is_yearly(form) { month } else { 0 };

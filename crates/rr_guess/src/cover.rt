@@ -24,10 +24,10 @@ const LEAST_GAIN: u32 = 3;
 ///
 /// For vCalendar 1.0 those events alone are tried that one rule of it has, but for the last day of a shorter month.
 ///
-/// None where the events that are tried do not cover it, at most `most_parts` of them and with at most `most_exceptions`
-/// exceptions: occurrences of an event that the set lacks, and occurrences of the set that no event has. None also where the set
-/// has more seconds of the day than there may be events and exceptions; where it does not repeat from a day on that lies within
-/// 33,554,432 days of its first, or not together with whole weeks after 16,777,216 days at most; and where 200,000,000 looks at a
+/// None if the events that are tried do not cover it, at most `most_parts` of them and with at most `most_exceptions`
+/// exceptions: occurrences of an event that the set lacks, and occurrences of the set that no event has. None also if the set
+/// has more seconds of the day than there may be events and exceptions; if it does not repeat from a day on that lies within
+/// 33,554,432 days of its first, or not together with whole weeks after 16,777,216 days at most; and if 200,000,000 looks at a
 /// day do not tell. It takes a bit for each of these days, and some bytes for each of their months.
 pub fn guesses<A: DaySeq>(
     alloc: Global,
@@ -79,7 +79,7 @@ fn covers<A: DaySeq>(
     Ok(true)
 }
 
-// The seconds of the day that the set has; None where they are more than the events and the exceptions may be together.
+// The seconds of the day that the set has; None if they are more than the events and the exceptions may be together.
 fn seconds_of<A: DaySeq>(
     alloc: Global,
     seq: &A,
@@ -183,7 +183,7 @@ fn covers_rest(alloc: Global, days: &mut SecondDays, plan: &mut Plan) -> Result<
     Ok(true)
 }
 
-// Takes the days of the best pattern from a day on, or that day alone. What is left, or None where no more is allowed.
+// Takes the days of the best pattern from a day on, or that day alone. What is left, or None if no more is allowed.
 fn takes_finite(
     alloc: Global,
     days: &mut SecondDays,
@@ -210,7 +210,7 @@ fn takes_finite(
     Ok(plan.allows(1).then_some(rest.without(1)))
 }
 
-// Puts the event of a pattern with an end, where it is valid and its exceptions are allowed.
+// Puts the event of a pattern with an end, if it is valid and its exceptions are allowed.
 fn puts_course(
     days: &SecondDays,
     here: &Here,

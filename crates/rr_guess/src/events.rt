@@ -33,7 +33,7 @@ impl Model for Events {
 }
 
 impl Events {
-    /// No event.
+    /// A list of events with none in it.
     pub(crate) fn new(alloc: Global) -> Events
         ensures { result ≡ [] }
     {
@@ -42,7 +42,7 @@ impl Events {
         }
     }
 
-    /// One event more.
+    /// Puts a valid event at the end.
     pub(crate) fn put(&mut self, event: GraphEvent) -> Result<(), NoMemory>
         requires { IsValidGraphEvent event }
         ensures { OnOk result (self.new ≡ self.old ++ event ∷ []) }
@@ -51,14 +51,14 @@ impl Events {
         Ok(())
     }
 
-    /// How many they are.
+    /// How many events there are.
     pub(crate) fn len(&self) -> usize
         ensures { result ≡ length self.now }
     {
         self.items.len()
     }
 
-    /// The events themselves.
+    /// The events, in the order in which they were put; each of them is valid.
     pub(crate) fn into_list(self) -> Vec<GraphEvent>
         ensures same { result.items ≡ self }
         ensures valid { All IsValidGraphEvent result.items }
@@ -67,7 +67,7 @@ impl Events {
     }
 }
 
-/// The event of a pattern from a day and a second on, where it is valid and has an occurrence.
+/// The event of a pattern from a day and a second on, if it is valid and has an occurrence.
 pub(crate) fn event_of(
     kind: Kind,
     second: u32,

@@ -12,14 +12,14 @@ use rr_model::Form;
 /// How many days of a pattern a set has, and how many it lacks.
 #[derive(Clone, Copy)]
 pub(crate) struct Count {
-    /// Those that it has.
+    /// How many of its days the set has.
     pub there: u32,
-    /// Those that it lacks.
+    /// How many of its days the set lacks.
     pub lacked: u32,
 }
 
 impl Count {
-    // Before the first day.
+    // The count before the first day.
     fn none() -> Count {
         Count {
             there: 0,
@@ -27,7 +27,7 @@ impl Count {
         }
     }
 
-    // A day more.
+    // The count after a further day, which the set has or lacks.
     fn with(&self, is_there: bool) -> Count {
         if is_there {
             Count {
@@ -42,7 +42,7 @@ impl Count {
         }
     }
 
-    /// All of them.
+    /// How many days the pattern has, those that the set has and those that it lacks.
     pub(crate) fn total(&self) -> u64 {
         u64::from(self.there) + u64::from(self.lacked)
     }
@@ -56,18 +56,18 @@ impl Count {
 /// A pattern up to a last day.
 #[derive(Clone, Copy)]
 pub(crate) struct Course {
-    /// The pattern.
+    /// The pattern, without an end.
     pub candidate: Candidate,
     /// The index of the last day.
     pub last: u32,
-    /// Its days.
+    /// How many of its days up to the last one the set has and lacks.
     pub count: Count,
 }
 
 /// What is left of a finite set.
 #[derive(Clone, Copy)]
 pub(crate) struct Rest {
-    /// How many days.
+    /// How many days are left.
     pub many: u32,
     /// The index after the last one.
     pub end: u32,
@@ -88,7 +88,7 @@ impl Rest {
         rest
     }
 
-    /// So many days fewer.
+    /// What is left after `days` of the days are taken out; the end stays.
     pub(crate) fn without(self, days: u32) -> Rest {
         Rest {
             many: self.many.saturating_sub(days),
@@ -97,7 +97,7 @@ impl Rest {
     }
 }
 
-// The best so far.
+// The pattern with the greatest gain so far, if there is one, and how much it gains.
 #[derive(Drop)]
 struct Best {
     course: Option<Course>,
@@ -106,7 +106,7 @@ struct Best {
     most_lacked: u32,
 }
 
-/// The pattern and its end with the most days of the set less those that it lacks, which begins on a day; None where none has
+/// The pattern and its end with the most days of the set less those that it lacks, which begins on a day; None if none has
 /// two more.
 pub(crate) fn best_course(
     days: &SecondDays,
@@ -253,7 +253,7 @@ fn whole_count(days: &SecondDays, walk: Walk, best: &Best, looks: &mut Looks) ->
     count
 }
 
-// Keeps a pattern where it gains more than the best so far.
+// Keeps a pattern if it gains more than the best so far.
 fn ask(days: &SecondDays, here: &Here, candidate: Candidate, best: &mut Best, looks: &mut Looks) {
     let course = course_of(days, here, candidate, best, looks);
     if course.count.gain() > best.gain {
@@ -262,7 +262,7 @@ fn ask(days: &SecondDays, here: &Here, candidate: Candidate, best: &mut Best, lo
     }
 }
 
-// The pattern up to the end with the greatest gain. It is given up where it can't gain more than the best so far.
+// The pattern up to the end with the greatest gain. It is given up if it can't gain more than the best so far.
 fn course_of(
     days: &SecondDays,
     here: &Here,

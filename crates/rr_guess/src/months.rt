@@ -17,7 +17,7 @@ pub(crate) struct Month {
     pub weekday: u8,
 }
 
-/// The months of so many days from a day on, which is the first of a month.
+/// The months in which `days` days lie, from a day on, which is the first of a month and in days since 1970-01-01.
 pub(crate) fn months_of(alloc: Global, first: i64, days: u32) -> Result<Vec<Month>, NoMemory>
     requires low { neg_ℤ (pos 2_000_000_000) ≤ℤ first }
     requires high { first ≤ℤ pos 2_000_000_000 }
@@ -58,7 +58,7 @@ pub(crate) enum Pick {
     Number(u8),
     /// The first to fourth, or with -1 the last, of these weekdays.
     Indexed {
-        /// Which of them.
+        /// Which of them: 1 to 4 from the front, or -1 for the last.
         index: i8,
         /// The weekdays: the sum of 1 for Sunday, 2 for Monday, up to 64 for Saturday.
         weekdays: u8,

@@ -19,9 +19,9 @@ pub(crate) const MANY_TURNS: u32 = 2_394;
 /// An interval of a type.
 #[derive(Clone, Copy)]
 pub(crate) struct Turn {
-    /// The type.
+    /// The type (Microsoft Graph, recurrencePattern, `type`).
     pub form: Form,
-    /// Every how many days, weeks, months or years.
+    /// Every how many days, weeks, months or years it counts, from 1 to 999.
     pub interval: u32,
     /// How long the interval is on average, in 4,800ths of a day: 400 years have 4,800 months and 146,097 days.
     pub length: u64,
@@ -41,7 +41,7 @@ impl Turn {
         }
     }
 
-    // The interval of the type, where it is one that the type may have.
+    // The interval of the type, if it is one that the type may have.
     fn of(form: Form, interval: u64) -> Option<Turn> {
         if interval < 1 || most_interval(form) < interval {
             return None;

@@ -19,7 +19,7 @@ pub(crate) struct Picks {
 }
 
 impl Picks {
-    /// Those of a day.
+    /// All picks of a month that have the day: by its number, and by its place among the weekdays of its month.
     pub(crate) fn of(alloc: Global, days: &SecondDays, here: &Here) -> Result<Picks, NoMemory> {
         let mut picks = Picks {
             numbers: Vec::new(alloc),
@@ -34,7 +34,7 @@ impl Picks {
         Ok(picks)
     }
 
-    // The number of the day, and where it is the last of its month, each greater one.
+    // The number of the day, and if it is the last of its month, each greater one.
     fn put_numbers(&mut self, day: &Day) -> Result<(), NoMemory> {
         let number = day.day_of_month;
         self.numbers.push(Pick::Number(number))?;
@@ -66,7 +66,7 @@ impl Picks {
         Ok(())
     }
 
-    /// Those of a type.
+    /// The picks that a type can name: numbers of an absolute type, weekdays of a relative one, and none of others.
     pub(crate) fn of_form(&self, form: Form) -> &[Pick] {
         match form {
             Form::AbsoluteMonthly | Form::AbsoluteYearly => self.numbers.as_slice(),

@@ -6,9 +6,9 @@ use std::alloc::Global;
 /// The events that have been found, and how many further exceptions and days looked at there may be.
 #[derive(Drop)]
 pub(crate) struct Plan {
-    /// The events.
+    /// The events that have been found so far.
     pub events: Events,
-    /// The most of them.
+    /// How many events there may be in all.
     pub most_parts: usize,
     /// How many more exceptions there may be.
     pub exceptions: usize,
@@ -17,7 +17,7 @@ pub(crate) struct Plan {
 }
 
 impl Plan {
-    /// Nothing has been found.
+    /// A plan without an event, for `most_parts` events with `most_exceptions` exceptions in all.
     pub(crate) fn new(alloc: Global, most_parts: usize, most_exceptions: usize) -> Plan {
         Plan {
             events: Events::new(alloc),
@@ -27,7 +27,7 @@ impl Plan {
         }
     }
 
-    /// Whether so many exceptions more are allowed, which are counted.
+    /// Whether `exceptions` further exceptions are allowed; then they are counted.
     pub(crate) fn allows(&mut self, exceptions: u32) -> bool {
         let exceptions = exceptions as usize;
         if self.exceptions < exceptions {

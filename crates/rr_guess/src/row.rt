@@ -13,7 +13,7 @@ pub(crate) struct Row {
 }
 
 impl Row {
-    /// No day.
+    /// A row of days with none in it.
     pub(crate) fn new(alloc: Global) -> Row {
         Row {
             bytes: Vec::new(alloc),
@@ -21,7 +21,7 @@ impl Row {
         }
     }
 
-    /// One day more.
+    /// Puts a day at the end, which is in the set or not.
     pub(crate) fn put(&mut self, has: bool) -> Result<(), NoMemory> {
         if self.len % DAYS_OF_BYTE == 0 {
             self.bytes.push(0)?;
@@ -42,7 +42,7 @@ impl Row {
         }
     }
 
-    /// The first days alone.
+    /// Keeps the first `len` days alone.
     pub(crate) fn keep(&mut self, len: u32) {
         self.len = self.len.min(len);
     }

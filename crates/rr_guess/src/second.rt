@@ -36,7 +36,7 @@ pub(crate) struct Extent {
     ghost period_few: { period ≤ 16_777_216 },
 }
 
-/// The days of a set that is not empty, where they are not too many to be looked at.
+/// The days of a set that is not empty, if they are not too many to be looked at.
 pub(crate) fn extent_of<A: DaySeq>(seq: &A, target: Target) -> Option<Extent> {
     let occupied = seq.first()?;
     let period = least_period(seq);
@@ -65,7 +65,7 @@ fn first_of_month_before(day: i64) -> i64
     before.number + 1 - i64::from(before.day_of_month)
 }
 
-// How many days lie from one day to another, where they are not too many.
+// How many days lie from one day to another, if they are not too many.
 fn days_within(from: i64, to: i64) -> Option<u32>
     requires low { neg_ℤ (pos 2_000_000_000) ≤ℤ from }
     requires high { from ≤ℤ pos 2_000_000_000 }
@@ -80,7 +80,7 @@ fn days_within(from: i64, to: i64) -> Option<u32>
 /// After how many days the set and all patterns that are tried repeat together.
 #[derive(Clone, Copy)]
 pub(crate) struct Cycle {
-    /// The days.
+    /// The length of the cycle in days, at most 16,777,216.
     pub days: u32,
     /// Whether they are whole months and years too.
     pub is_by_months: bool,
@@ -88,7 +88,7 @@ pub(crate) struct Cycle {
 }
 
 impl Cycle {
-    // That of a set with this period, where it is not too long.
+    // The cycle of a set with this period and of all patterns, if it is not too long.
     fn of(period: u32) -> Option<Cycle>
         requires { 1 ≤ period }
     {
@@ -130,11 +130,11 @@ pub(crate) struct SecondDays {
     pub target: Target,
     /// Whether its occurrences are dates or moments.
     pub kind: Kind,
-    /// The second, 0 for dates.
+    /// The second of the day, 0 for dates.
     pub second: u32,
     /// Which of them the set has.
     pub row: Row,
-    /// Their months.
+    /// The months in which these days lie, in order.
     pub months: Vec<Month>,
     /// The day of the first index, in days since 1970-01-01.
     pub first: i64,
@@ -149,7 +149,7 @@ pub(crate) struct SecondDays {
 }
 
 impl SecondDays {
-    /// Those of a second; None where they repeat after too many days.
+    /// The days on which a set has this second; `None` if they repeat only after too many days.
     pub(crate) fn of<A: DaySeq>(
         alloc: Global,
         seq: &A,

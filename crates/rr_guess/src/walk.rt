@@ -51,7 +51,7 @@ impl Walk {
         }
     }
 
-    /// The index of its next day, where that lies before an end.
+    /// The index of its next day, if that lies before an end.
     pub(crate) fn next_before(&mut self, days: &SecondDays, end: u32) -> Option<u32> {
         let index = self.next(days.months.as_slice())?;
         (index < end).then_some(index)
@@ -101,7 +101,7 @@ impl Walk {
         }
     }
 
-    // A unit is passed.
+    // Goes on to the next unit that counts.
     fn pass_unit(&mut self) {
         self.unit = self.unit.saturating_add(self.step);
     }

@@ -5,7 +5,8 @@ use crate::months::{has_weekday_after, weekday_after, weekday_bit};
 /// How many days stand in one week with a day, whatever the first weekday: six before it and six after it.
 pub(crate) const MANY_BESIDE: usize = 13;
 
-/// The sum of the weekdays of the week of a day that are marked, where marks stand for the days from six before it on.
+/// The sum of the weekdays of the week of a day that are marked. The marks are those of 13 days, from six before the
+/// day to six after it.
 pub(crate) fn weekdays_marked(marks: &[bool; MANY_BESIDE], first_day: u8, weekday: u8) -> u8 {
     let into = days_into_week(first_day, weekday);
     let mut weekdays = 0;

@@ -46,7 +46,7 @@ pub enum EventPiece {
 }
 
 impl EventPiece {
-    /// Its markup.
+    /// The markup of the piece, which is fixed.
     pub fn text(self) -> &'static [u8]
         ensures { result.now ≡ event_text self }
     {

@@ -84,7 +84,7 @@ box.addEventListener('input',()=>{const words=box.value.toLowerCase();if(words)f
 pub enum FramePiece {
     /// The start of a page, up to its style sheet.
     PageStart,
-    /// The style sheet.
+    /// The style sheet of the page.
     Style,
     /// From the style sheet to the heading of the page.
     BodyStart,
@@ -123,7 +123,7 @@ pub enum FramePiece {
 }
 
 impl FramePiece {
-    /// Its markup.
+    /// The markup of the piece, which is fixed.
     pub fn text(self) -> &'static [u8]
         ensures { result.now ≡ frame_text self }
     {

@@ -25,13 +25,13 @@ pub enum HeadPiece {
     FilesEnd,
     /// The options follow, and `FramePiece::LeadEnd`.
     OptionsStart,
-    /// The option `--strict`.
+    /// The option `--strict` was given.
     OptionStrict,
-    /// The option `--by-uid`.
+    /// The option `--by-uid` was given.
     OptionByUid,
-    /// The option `--differences`.
+    /// The option `--differences` was given.
     OptionDifferences,
-    /// The option `--zones`.
+    /// The option `--zones` was given; the name of its file follows.
     OptionZones,
     /// The number of events to look at follows.
     CountsStart,
@@ -44,7 +44,7 @@ pub enum HeadPiece {
 }
 
 impl HeadPiece {
-    /// Its markup.
+    /// The markup of the piece, which is fixed.
     pub fn text(self) -> &'static [u8]
         ensures { result.now ≡ head_text self }
     {

@@ -27,7 +27,7 @@ impl Model for Markup {
 }
 
 impl Markup {
-    /// The empty text; it takes no memory.
+    /// Markup without a piece; it takes no memory.
     pub fn new(alloc: Global) -> Self
         ensures { result ≡ [] }
     {
@@ -36,7 +36,7 @@ impl Markup {
         }
     }
 
-    /// Appends a fixed piece.
+    /// Appends the markup of a fixed piece.
     pub fn piece(&mut self, piece: Piece) -> Result<(), NoMemory>
         ensures { OnOk result (self.new ≡ self.old ++ piece_text piece) }
     {
@@ -51,7 +51,7 @@ impl Markup {
         push_escaped(&mut self.bytes, text)
     }
 
-    /// Its bytes.
+    /// The bytes of all that was appended.
     pub fn into_bytes(self) -> Vec<u8>
         ensures bytes { result.items ≡ self }
         ensures markup { ∥ IsMarkup result.items ∥₁ }

@@ -33,7 +33,7 @@ pub enum MonthPiece {
     SignA,
     /// The sign of a day on which B alone has an occurrence.
     SignB,
-    /// No sign.
+    /// No sign: the end of a day without an occurrence.
     SignNone,
     /// The end of a month.
     MonthEnd,
@@ -42,7 +42,7 @@ pub enum MonthPiece {
 }
 
 impl MonthPiece {
-    /// Its markup.
+    /// The markup of the piece, which is fixed.
     pub fn text(self) -> &'static [u8]
         ensures { result.now ≡ month_text self }
     {

@@ -17,20 +17,20 @@ pub enum Piece {
     Frame(FramePiece),
     /// Of the head of a page: files, options and counts.
     Head(HeadPiece),
-    /// Of sections and lists.
+    /// Of sections of events, and of lists in them.
     Section(SectionPiece),
-    /// Of an event.
+    /// Of an event to look at.
     Event(EventPiece),
     /// Of what is said of an event.
     Sentence(SentencePiece),
-    /// Of a month.
+    /// Of a month of an event's differences.
     Month(MonthPiece),
-    /// Of what to do.
+    /// Of what to do about an event.
     Todo(TodoPiece),
 }
 
 impl Piece {
-    /// Its markup.
+    /// The markup of the piece, which is fixed.
     #[tactic(auto, unfolding(crate::specs::Pieces::piece_text))]
     pub fn text(self) -> &'static [u8]
         ensures { result.now ≡ piece_text self }

@@ -36,7 +36,7 @@ pub enum SectionPiece {
 }
 
 impl SectionPiece {
-    /// Its markup.
+    /// The markup of the piece, which is fixed.
     pub fn text(self) -> &'static [u8]
         ensures { result.now ≡ section_text self }
     {

@@ -37,7 +37,7 @@ pub enum SentencePiece {
     NoMore,
     /// The number of further differences follows.
     MoreStart,
-    /// The last difference follows.
+    /// The day or the moment of the last difference follows.
     MoreUntil,
     /// The end of the further differences.
     MoreEnd,
@@ -66,7 +66,7 @@ pub enum SentencePiece {
 }
 
 impl SentencePiece {
-    /// Its markup.
+    /// The markup of the piece, which is fixed.
     pub fn text(self) -> &'static [u8]
         ensures { result.now ≡ sentence_text self }
     {

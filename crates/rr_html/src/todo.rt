@@ -28,7 +28,7 @@ pub enum TodoPiece {
 }
 
 impl TodoPiece {
-    /// Its markup.
+    /// The markup of the piece, which is fixed.
     pub fn text(self) -> &'static [u8]
         ensures { result.now ≡ todo_text self }
     {

@@ -1,4 +1,4 @@
--- A text has a BEGIN where some line from here on has it; no piece of a text has a number past its bytes.
+-- A text has a BEGIN if some line from here on has it; no piece of a text has a number past its bytes.
 use Rattle.std.proofs.Common.{◌≡◌, ℕ, zero, suc, ◌+◌, ◌<◌, ◌≤◌, ◌^◌, ℤ, Bool, true, false, cond, ◌||◌, List, [], ◌∷◌, length, length-drop, take, drop, map, get_or}
 use Rattle.std.proofs.Common.{codes, nat_lt, Option, Some, None, Result, Ok, Err, sym, refl, ap, ◌∙◌, arith}
 use Rattle.std.specs.Prelude.{bytes_eq, if◌then◌else◌, unwrap_or, IfOk}
@@ -28,7 +28,7 @@ use Rattle.rr_seam.specs.declared.file.TheConstants.{MAX_FILE}
 abbrev begins : Line → Bool
 begins line = is_named line.text (codes "BEGIN")
 
--- a text has a BEGIN exactly where the rest, from a line with this number on, has one
+-- a text has a BEGIN exactly if the rest, from a line with this number on, has one
 pub record IsUnread (text rest : List ℕ) (number : ℕ) : Type 0 where
   pub same : has_begin text ≡ list_any begins (lines_at number rest)
   pub few : number + length rest ≤ 1 + length text

@@ -112,7 +112,7 @@ abbrev pub calendar_by_events : Option ℤ → Bool → Result (List (List Line)
 calendar_by_events offset lenient (Ok texts) = Ok (calendar_of offset lenient texts)
 calendar_by_events offset lenient (Err r) = Err r
 
--- The calendar that a file states beside a stated offset of local time from UTC in seconds, where a date beside moments may be read as the
--- occurrences of its day, or why the whole file is refused.
+-- The calendar that a file states beside a stated offset of local time from UTC in seconds, or why the whole file is
+-- refused. If `lenient` is true, a date beside moments may be read as the occurrences of its day.
 abbrev pub calendar : Option ℤ → Bool → List ℕ → Result Calendar FileRefusal
 calendar offset lenient bytes = calendar_by_events offset lenient (file_events bytes)

@@ -63,7 +63,7 @@ fn recurrence_stamp(event: &Event) -> Result<Stamp, Refusal>
     }
 }
 
-// With the RECURRENCE-ID of one instance more.
+// The names with that of a further instance; it is refused if they have it.
 fn with_new_name(names: NameSets, event: &Event, stamp: Stamp) -> Result<NameSets, KeyFault>
     ensures { AnswersKey (with_new_name names event.now stamp) result }
 {
@@ -75,7 +75,7 @@ fn with_new_name(names: NameSets, event: &Event, stamp: Stamp) -> Result<NameSet
     }
 }
 
-// With one instance more.
+// The names with the RECURRENCE-ID of a further instance, or why that is refused.
 fn with_name(names: NameSets, event: &Event) -> Result<NameSets, KeyFault>
     ensures { AnswersKey (with_name names event.now) result }
 {

@@ -21,7 +21,7 @@ use std::alloc::Global;
 /// What is read of the events of a key.
 #[derive(Drop)]
 pub struct Reading {
-    /// Their series, with its instances as dates.
+    /// The series of the events, with its instances as dates.
     pub series: Series,
     /// Whether dates beside moments are read as the occurrences of their days.
     pub day: bool,
@@ -95,7 +95,7 @@ fn put_values(
     Ok(())
 }
 
-// The same line, in memory of its own.
+// A copy of a line, in memory of its own.
 fn copy_line(alloc: Global, line: &UsedLine) -> Result<UsedLine, NoMemory>
     ensures { IfOk result (λ made. made ≡ line.now) }
 {

@@ -99,7 +99,7 @@ fn with_start(
     Ok(shifts.put_in(at)?)
 }
 
-/// The start of one instance more is put in, unless it is cancelled.
+/// Puts in the start of a further instance, unless it is cancelled. A refusal names the instance.
 pub(crate) fn with_event_start(
     alloc: Global,
     setting: Setting,
@@ -114,7 +114,7 @@ pub(crate) fn with_event_start(
     }
 }
 
-// With one instance more.
+// Takes out the moment that a further instance names, and puts in its start.
 fn with_instance(
     alloc: Global,
     setting: Setting,

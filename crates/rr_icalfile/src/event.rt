@@ -15,7 +15,7 @@ use std::alloc::Global;
 /// A RECURRENCE-ID, which makes an event an instance of a series (RFC 5545, section 3.8.4.4).
 #[derive(Drop)]
 pub struct Recurrence {
-    /// The number of its line.
+    /// The number of its line in the text, from 1.
     pub line: u64,
     /// Its value, empty if it has none.
     pub value: Bytes,
@@ -26,7 +26,7 @@ pub struct Recurrence {
 /// What an event of a calendar states of itself.
 #[derive(Drop)]
 pub struct Event {
-    /// The number of the line of its BEGIN.
+    /// The number of the line of its BEGIN in the text, from 1.
     pub first: u64,
     /// Its used lines; an instance that is cancelled is not read, and has none.
     pub scan: Scan,

@@ -24,14 +24,14 @@ impl Model for Gathered {
 }
 
 impl Gathered {
-    /// The event without a RECURRENCE-ID.
+    /// The event without a RECURRENCE-ID, if there is one: the series.
     pub fn series(&self) -> Option<&Event>
         ensures { option_map (λ event. event.now) result ≡ self.now.series }
     {
         self.series.as_ref()
     }
 
-    /// The events with a RECURRENCE-ID, in their order.
+    /// The events with a RECURRENCE-ID, in the order of the file.
     pub fn instances(&self) -> &[Event]
         ensures { result.now ≡ self.now.instances }
     {
@@ -63,7 +63,7 @@ fn judge_instance(event: &Event) -> Result<(), KeyRefusal>
     Ok(())
 }
 
-// With one event more.
+// The events of a key with a further one: another instance, or the series, of which a second one is refused.
 fn with_event(gathered: Gathered, event: Event) -> Result<Gathered, KeyFault>
     ensures { AnswersKey (with_event gathered event) result }
 {

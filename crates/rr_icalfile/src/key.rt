@@ -72,7 +72,7 @@ fn uid_of(alloc: Global, piece: Piece) -> Result<Bytes, NoMemory>
     Ok(Bytes::new(alloc))
 }
 
-/// The key of an event.
+/// The key of an event: its UID, or the number of the line of its BEGIN if it has none.
 pub fn key_of(alloc: Global, piece: Piece) -> Result<Key, NoMemory>
     requires { piece.first + length piece.text.now < 2 ^ 64 }
     ensures { IfOk result (λ key. key ≡ key_of (lines_in piece.entry)) }

@@ -49,7 +49,7 @@ fn parts_at<'a>(
     Ok(parts)
 }
 
-// Reads events.
+// The events that stand in parts of a text, in their order.
 fn events_of(alloc: Global, parts: &[Part]) -> Result<Vec<Event>, NoMemory>
     ensures { IfOk result (λ events. events.items ≡ map event_of (map lines_of parts.now)) }
 {

@@ -33,7 +33,7 @@ fn number_if(is_so: bool) -> usize
     if is_so { 1 } else { 0 }
 }
 
-// The tally with one line more, which stands in no event.
+// The tally after a further line, which stands in no event.
 fn with_line(so_far: Unread, text: &[u8]) -> Unread
     requires tasks { so_far.tasks + 1 < 2 ^ 64 }
     requires journals { so_far.journals + 1 < 2 ^ 64 }
@@ -46,7 +46,7 @@ fn with_line(so_far: Unread, text: &[u8]) -> Unread
     }
 }
 
-// The tally with one line more; none after a fault of the components.
+// The tally after a further line; none after a fault of the components.
 fn step(
     alloc: Global,
     names: &mut OpenNames,

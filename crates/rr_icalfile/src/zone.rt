@@ -35,7 +35,7 @@ impl ZoneList {
         }
     }
 
-    /// Puts a zone.
+    /// Puts a zone at the end, with its name in memory of its own.
     pub(crate) fn put(&mut self, alloc: Global, zone: &[u8]) -> Result<(), NoMemory>
         ensures { OnOk result (self.new ≡ self.old ++ zone.now ∷ []) }
     {
@@ -43,7 +43,7 @@ impl ZoneList {
         Ok(())
     }
 
-    /// Puts several zones.
+    /// Puts several zones at the end, in their order.
     pub(crate) fn put_all(&mut self, alloc: Global, zones: &[Bytes]) -> Result<(), NoMemory>
         ensures { OnOk result (self.new ≡ self.old ++ zones.now) }
     {

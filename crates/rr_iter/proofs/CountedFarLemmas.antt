@@ -48,7 +48,7 @@ module _
   fits : EndsNotBefore kind start rule.end
   fits = subst (EndsNotBefore kind start) (sym counts) tt
 
-  -- it has a member from the day on exactly where fewer chosen moments lie before the day than it counts, and one from the day on
+  -- it has a member from the day on exactly if fewer chosen moments lie before the day than it counts, and one from the day on
   pub counted_from_on : HasMemberFrom rule kind start from ↔ ((count_before (λ x y. stands_at chosen x y) from < count) × HasSecondFrom chosen from)
   counted_from_on = (
     λ m. (
@@ -95,7 +95,7 @@ module _ (rule : Rule) (start : ℤ) where
       let next : day_part Moments start +ℤ pos (MAX_SPAN_DAYS + 1) ≡ d +ℤ pos 1 = omega (arith, ints) in
       rw next (omega (arith, all, to_is test d 86_399, before_next test d begun))
 
--- a rule with COUNT counts too far exactly where fewer of its chosen moments lie within the span than it counts
+-- a rule with COUNT counts too far exactly if fewer of its chosen moments lie within the span than it counts
 pub counts_too_far : (rule : Rule) (kind : Kind) (start : ℤ) → IsInYears kind start → (count : ℕ) → rule.end ≡ Count count
     → CountsTooFar kind start rule
     ↔ (count_before (λ x y. stands_at (chosen_of rule kind start) x y) (day_part kind start +ℤ pos (MAX_SPAN_DAYS + 1)) < count)

@@ -92,7 +92,7 @@ module _ (tree : Tree) (first : ℤ) (cycle each : ℕ) (begun : IsFromYearOne f
           within = omega (arith, ap (before_day tree) e, moved (day +ℤ pos 1) (omega (arith, ints, late)), h.within, counted, some);
         }
 
-    -- where it lies beyond a day, the number lies n days after that day
+    -- if it lies beyond a day, the number lies n days after that day
     pub number_beyond : (to end : ℤ) (rest : ℕ) → first ≤ℤ to → end ≡ (to +ℤ pos 1) +ℤ pos days → 1 ≤ rest
         → before_day tree (to +ℤ pos 1) + rest ≡ count - passed → before_day tree end < count
     number_beyond to end rest l e r c = omega (arith, ap (before_day tree) e, moved (to +ℤ pos 1) (omega (arith, ints, l)), c, r, some, counted)
@@ -186,7 +186,7 @@ module _ (kind : Kind) (start : ℤ) (rule : Rule) (sound : IsSoundRule kind sta
           cycles days (cycles * each) count left refl refl counted (passed_less left each some)
           (day_part kind start +ℤ pos 16_777_217) (omega (arith, ints, start_begun)) (omega (arith, ints, far))
 
-      -- where a cycle has none, the number lies after any number of cycles
+      -- if a cycle has none, the number lies after any number of cycles
       pub rule_number_never : each ≡ 0 → before_day (chosen_of rule kind start) (day_part kind start +ℤ pos 16_777_217) < count
       rule_number_never none =
           let k : ℕ = 16_777_217 in

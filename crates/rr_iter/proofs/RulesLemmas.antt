@@ -40,7 +40,7 @@ module _ (kind : Kind) (start : ℤ) where
   abbrev all_members : List Rule → Tree
   all_members rules = many (members_of_all kind start rules)
 
-  -- of the first rules of a list they are of the kind, where those of each are
+  -- of the first rules of a list they are of the kind, if those of each are
   first_of_kind : (n : ℕ) (rules : List Rule) → All (λ rule. IsOfKind kind (members_of kind start rule)) rules
       → AreOfKind kind (members_of_all kind start (take n rules))
   first_of_kind zero rules a = tt
@@ -66,7 +66,7 @@ module _ (kind : Kind) (start : ℤ) where
 
 -- ---- the whole series
 
--- the dates added, and the start where it counts
+-- the dates added, and the start if it counts
 pub dates_in_years : (series : Series) → IsSound series → All (IsInYears series.kind) (dates_with_start series)
 dates_in_years series s =
     elim series.start_counts as (λ b. All (IsInYears series.kind) (if b then with_value int_lt series.plus series.start else series.plus)) [

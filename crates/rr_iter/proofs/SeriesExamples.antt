@@ -37,7 +37,7 @@ of_ends = refl
 of_rule : members_of Days (pos 19_723) weekly ≡ chosen_of weekly Days (pos 19_723)
 of_rule = refl
 
--- the start is among the dates where it counts, once
+-- the start is among the dates if it counts, once
 of_dates :
     (dates_with_start (with_rules [] (pos 19_725 ∷ []) []) ≡ pos 19_723 ∷ pos 19_725 ∷ [])
     × (dates_with_start (with_rules [] (pos 19_723 ∷ []) []) ≡ pos 19_723 ∷ [])

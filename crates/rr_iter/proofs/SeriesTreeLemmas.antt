@@ -20,7 +20,7 @@ use Rattle.rr_lazy.proofs.StretchLemmas.{listed}
 
 -- ---- rules
 
--- some rule's tree has it exactly where it is a member of some rule
+-- some rule's tree has it exactly if it is a member of some rule
 members_of_some : (rules : List Rule) (kind : Kind) (start t : ℤ) → IsInYears kind start → All (λ rule. EndsNotBefore kind start rule.end) rules
     → (some_stands_at (members_of_all kind start rules) (day_part kind t) (second_part kind t) ≡ true) ↔ IsMemberOfSome rules kind start t
 members_of_some [] kind start t y fit = (λ h. absurd (false≢true h), λ m. absurd m)
@@ -35,7 +35,7 @@ members_of_some (rule ∷ rules) kind start t y fit =
 
 -- ---- dates
 
--- the start, where it counts, or a date that is added
+-- the start, if it counts, or a date that is added
 dates_are : (b : Bool) (plus : List ℤ) (start t : ℤ)
     → Contains (if b then with_value int_lt plus start else plus) t ↔ (((b ≡ true) × (t ≡ start)) ⊎ Contains plus t)
 dates_are true plus start t = (
@@ -44,7 +44,7 @@ dates_are true plus start t = (
 )
 dates_are false plus start t = (λ c. inr c, λ m. elim m [ inl h ↦ absurd (false≢true h.0) | inr d ↦ d ])
 
--- a date stands exactly where it is listed
+-- a date stands exactly if it is listed
 among_is : (kind : Kind) (dates : List ℤ) (t : ℤ) → (is_among kind dates (day_part kind t) (second_part kind t) ≡ true) ↔ Contains dates t
 among_is kind dates t =
     let m = moment_is kind t in
@@ -54,7 +54,7 @@ among_is kind dates t =
 -- ---- the series
 
 module _ (series : Series) (t : ℤ) (sound : IsSound series) where
-  -- t stands among the dates added, with the start where it counts
+  -- t stands among the dates added, with the start if it counts
   abbrev dates : Bool
   dates = is_among series.kind (dates_with_start series) (day_part series.kind t) (second_part series.kind t)
 

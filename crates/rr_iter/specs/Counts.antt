@@ -18,12 +18,12 @@ pub record IsCounted (rule : Rule) (kind : Kind) (start : ℤ) (count : ℕ) (co
   pub some_after : 1 ≤ counted.after
   pub after : up_to_cycle rule kind start + counted.after ≡ count
 
--- what is counted to find the member of this number: nothing exactly where it lies within that first cycle
+-- what is counted to find the member of this number: nothing exactly if it lies within that first cycle
 abbrev pub IsCountUpTo : Rule → Kind → ℤ → ℕ → Option CycleCount → Type 0
 IsCountUpTo rule kind start count (Some counted) = IsCounted rule kind start count counted
 IsCountUpTo rule kind start count None = count ≤ up_to_cycle rule kind start
 
--- what is counted of a rule with this end: where it is COUNT alone, what is counted to find the member of that number, and else nothing
+-- what is counted of a rule with this end: if it is COUNT alone, what is counted to find the member of that number, and otherwise nothing
 abbrev pub IsCountOfEnd : Kind → ℤ → Rule → End → Option CycleCount → Type 0
 IsCountOfEnd kind start rule (Count count) counted = IsCountUpTo rule kind start count counted
 IsCountOfEnd kind start rule end counted = counted ≡ None

@@ -41,7 +41,7 @@ pub record IsLastOfRules (kind : Kind) (start : ℤ) (rules : List Rule) (day la
   pub ended : HaveEnded kind start (last +ℤ pos 1) rules
   pub least : (settled : ℤ) → day <ℤ settled → HaveEnded kind start settled rules → last <ℤ settled
 
--- the last occupied day up to a day, or the one that is given where nothing after it is
+-- the last occupied day up to a day, or the one that is given if nothing after it is
 pub record IsLastUpTo (tree : Tree) (given to day : ℤ) : Type 0 where
   pub after : HasNone tree (day +ℤ pos 1) (to +ℤ pos 1)
   pub occupied : (day ≡ given) ⊎ ((s : ℕ) × (stands_at tree day s ≡ true))
@@ -66,12 +66,12 @@ pub record HasNumberOn (tree : Tree) (number : ℕ) (day : ℤ) : Type 0 where
   pub above : before_day tree day < number
   pub within : number ≤ before_day tree (day +ℤ pos 1)
 
--- the day of the occurrence of this number, where it is not after a day, or how many occurrences after that day lead to it
+-- the day of the occurrence of this number, if it is not after a day, or how many occurrences after that day lead to it
 abbrev pub IsNthDayOf : Tree → ℕ → ℤ → NthDay → Type 0
 IsNthDayOf tree number to (On day) = (day ≤ℤ to) × HasNumberOn tree number day
 IsNthDayOf tree number to (Beyond left) = (1 ≤ left) × (before_day tree (to +ℤ pos 1) + left ≡ number)
 
--- the day of the occurrence of this number, refused where it lies more days after a day than the most of a span
+-- the day of the occurrence of this number, refused if it lies more days after a day than the most of a span
 abbrev pub AnswersDayOf : Tree → ℤ → ℕ → Result ℤ Fault → Type 0
 AnswersDayOf tree first number (Ok day) = (day ≤ℤ (first +ℤ pos MAX_SPAN_DAYS)) × HasNumberOn tree number day
 AnswersDayOf tree first number (Err (Refused refusal)) = (refusal ≡ CountedTooFar) × (before_day tree (first +ℤ pos (MAX_SPAN_DAYS + 1)) < number)

@@ -19,11 +19,12 @@ use std::alloc::Global;
 pub enum AnyLazy {
     /// Of a series that has nothing but one rule, and its start.
     Alone(AloneLazy),
-    /// Of any other series.
+    /// Of any other: without a rule, with several, with dates beside them, with excluded rules, or with a start that
+    /// does not count.
     Whole(Without<KeptLazy>),
 }
 
-/// The occurrences of a series (RFC 5545, section 3.8.5): its start where it counts, the members of its rules and the
+/// The occurrences of a series (RFC 5545, section 3.8.5): its start if it counts, the members of its rules and the
 /// dates added, without the members of its excluded rules and the dates taken out.
 pub fn occurrences(alloc: Global, series: &Checked) -> Result<AnyLazy, NoMemory>
     ensures tree { IfOk result (λ l. ⟦<AnyLazy as Lazy>⟧.tree l ≡ tree_of series.now) }

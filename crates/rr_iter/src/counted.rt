@@ -15,7 +15,7 @@ use std::alloc::Global;
 // The seconds of a span, of which a rule chooses at most all.
 const MOST_MOMENTS: u64 = 86_400 * (MAX_SPAN_DAYS + 1);
 
-// The day of the chosen moment of a number, and what was counted where it lies after the first cycle; refused where it lies more
+// The day of the chosen moment of a number, and what was counted if it lies after the first cycle; refused if it lies more
 // than `MAX_SPAN_DAYS` days after the start's.
 pub(crate) fn last_counted(
     alloc: Global,
@@ -40,8 +40,8 @@ pub(crate) fn last_counted(
     }
 }
 
-// The same of a number that is `left` above the moments up to the start's day. A rule that chooses nothing in a whole cycle
-// after that day never does.
+// The day of the chosen moment of number `count`, which is `left` above the moments up to the start's day, and what was
+// counted. A rule that chooses nothing in a whole cycle after that day never does.
 fn after_start(
     alloc: Global,
     rule: &Rule,
@@ -81,7 +81,8 @@ fn after_start(
     }
 }
 
-// The same where the cycle is shorter than a span, and each cycle after the start's day has this number of moments, one at least.
+// The day of the chosen moment of number `count`, if the cycle is shorter than a span and each cycle after the start's
+// day has `each` moments, one at least.
 fn after_cycles(
     alloc: Global,
     rule: &Rule,
@@ -112,7 +113,7 @@ fn after_cycles(
     }
 }
 
-// The cycle of a rule in days, or the most days of a span where it is longer.
+// The cycle of a rule in days, or the most days of a span if it is longer.
 fn cycle_within_span(rule: &Rule) -> u64
     requires { 1 ≤ rule.now.interval }
     ensures { result ≡ min (rule_cycle rule.now) MAX_SPAN_DAYS }

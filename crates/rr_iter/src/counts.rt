@@ -13,9 +13,9 @@ pub struct CycleCount {
 /// without COUNT or with UNTIL beside it, and for one that COUNT ends within the first cycle after its start's day.
 #[derive(Drop)]
 pub struct Counts {
-    /// Of the rules.
+    /// An item for each rule, in the order of the series.
     pub rules: Vec<Option<CycleCount>>,
-    /// Of the excluded rules.
+    /// An item for each excluded rule, in the order of the series.
     pub excluded: Vec<Option<CycleCount>>,
 }
 

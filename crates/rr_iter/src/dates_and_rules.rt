@@ -1,4 +1,4 @@
-// The dates that are added to a series, its start where it counts, and the members of its rules.
+// The dates that are added to a series, its start if it counts, and the members of its rules.
 ghost use Rattle.std.specs.Prelude.{◌≡◌, IfOk, List, ℕ};
 ghost use Rattle.rr_model.specs.Series.Soundness.{IsSound};
 ghost use Rattle.rr_model.specs.Series.Tree.{dates_with_start, tree_of_given};
@@ -10,14 +10,14 @@ use rr_model::{Dates, NoMemory, Series};
 use rr_shapes::SetTable;
 use std::alloc::Global;
 
-/// The dates that are added to a series, its start where it counts, and the members of its rules.
+/// The dates that are added to a series, its start if it counts, and the members of its rules.
 #[derive(Drop)]
 pub struct DatesAndRules {
     pub(crate) lazy: Union<DatesLazy, RulesOfSeries>,
 }
 
 impl DatesAndRules {
-    /// The dates of a series, its start among them where it counts, and the members of its rules.
+    /// The dates of a series, its start among them if it counts, and the members of its rules.
     pub(crate) fn new(alloc: Global, series: &Series) -> Result<DatesAndRules, NoMemory>
         requires sound { IsSound series.now }
         ensures tree { IfOk result (λ l. ⟦<DatesAndRules as Lazy>⟧.tree l
@@ -34,7 +34,7 @@ impl DatesAndRules {
     }
 }
 
-// The dates that are added to a series, and its start where it counts.
+// The dates that are added to a series, and its start if it counts.
 fn dates_with_start(alloc: Global, series: &Series) -> Result<Dates, NoMemory>
     ensures { IfOk result (λ dates. dates ≡ dates_with_start series.now) }
 {

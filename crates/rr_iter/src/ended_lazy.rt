@@ -16,19 +16,19 @@ use std::alloc::Global;
 /// The members of a rule: its chosen moments from its start on, up to its end.
 #[derive(Drop)]
 pub enum EndedLazy {
-    /// Of a rule without end.
+    /// The members of a rule without end.
     Never(RuleLazy),
-    /// Of a rule with UNTIL.
+    /// The members of a rule with UNTIL alone.
     Until(UptoRule),
-    /// Of a rule with COUNT.
+    /// The members of a rule with COUNT alone.
     Count(FirstN<RuleLazy>),
-    /// Of a rule with both.
+    /// The members of a rule with both, up to the earlier end.
     Both(FirstN<UptoRule>),
 }
 
 impl EndedLazy {
-    /// The members of a rule from its start on, in years 1 to 9999. Where the rule has an UNTIL, it lies in these years,
-    /// is of the start's kind and not before it.
+    /// The members of a rule from its start on, in years 1 to 9999. The start is in days or seconds since 1970-01-01.
+    /// If the rule has an UNTIL, it lies in these years, is of the start's kind and not before it.
     pub fn new(alloc: Global, rule: &Rule, kind: Kind, start: i64) -> Result<EndedLazy, NoMemory>
         requires valid { IsValidRule kind rule.now }
         requires in_years { IsInYears kind start }

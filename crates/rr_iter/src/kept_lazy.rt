@@ -11,7 +11,7 @@ use rr_model::{NoMemory, Series};
 use rr_shapes::SetTable;
 use std::alloc::Global;
 
-/// The dates that are added to a series, its start where it counts, and the members of its rules, except the members of
+/// The dates that are added to a series, its start if it counts, and the members of its rules, except the members of
 /// its excluded rules.
 #[derive(Drop)]
 pub struct KeptLazy {
@@ -19,7 +19,7 @@ pub struct KeptLazy {
 }
 
 impl KeptLazy {
-    /// The dates of a series, its start among them where it counts, and the members of its rules that no excluded rule has.
+    /// The dates of a series, its start among them if it counts, and the members of its rules that no excluded rule has.
     pub(crate) fn new(alloc: Global, series: &Series) -> Result<KeptLazy, NoMemory>
         requires sound { IsSound series.now }
         ensures tree { IfOk result (λ l. ⟦<KeptLazy as Lazy>⟧.tree l ≡ tree_of_left series.now) }

@@ -44,7 +44,7 @@ pub(crate) fn last_day(alloc: Global, rule: &Rule, kind: Kind, start: i64) -> Re
     }
 }
 
-// The last day up to a day on which a rule has a member; the start's day where there is none.
+// The last day up to a day on which a rule has a member; the start's day if there is none.
 fn last_member(alloc: Global, rule: &Rule, kind: Kind, start: i64, to: i64) -> Result<i64, NoMemory>
     requires sound { IsSoundRule kind start rule.now }
     requires low { IsFromYearOne to }
@@ -55,7 +55,7 @@ fn last_member(alloc: Global, rule: &Rule, kind: Kind, start: i64, to: i64) -> R
     last_occupied(alloc, members, day_part(kind, start), to)
 }
 
-// The last occupied day up to a day; the one that is given where there is none.
+// The last occupied day up to a day; the one that is given if there is none.
 fn last_occupied<A: Lazy + Drop>(
     alloc: Global,
     mut lazy: A,

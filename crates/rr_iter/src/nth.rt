@@ -21,9 +21,10 @@ pub enum NthDay {
     Beyond(u64),
 }
 
-// The day of the chosen moment of a number, from 1, looked for from the rule's start up to a day, in days since 1970-01-01;
-// `Beyond(k)` if the days up to that one hold fewer, where the `k`-th after them is meant. INTERVAL and the BY parts are
-// asked, BYSETPOS among them; UNTIL and COUNT are not. Each day's moments are counted at once.
+// The day of the chosen moment of a number, from 1, looked for from the rule's start up to a day, in days since
+// 1970-01-01; if the days up to that one hold fewer, `Beyond(k)`: the one that is meant is the `k`-th after that day.
+// INTERVAL and the BY parts are asked, BYSETPOS among them; UNTIL and COUNT are not. Each day's moments are counted at
+// once.
 pub(crate) fn day_of_nth(
     alloc: Global,
     rule: &Rule,
@@ -42,8 +43,8 @@ pub(crate) fn day_of_nth(
     nth_of(alloc, chosen, number, to)
 }
 
-/// Where the occurrence of a number, from 1, in a set that has not been asked lies up to a day, in days since 1970-01-01. Each
-/// day's moments are counted at once.
+/// On which day the occurrence of a number, from 1, lies, looked for up to a day, in days since 1970-01-01. The set
+/// must not have been asked before. Each day's moments are counted at once.
 pub fn nth_of<A: Lazy + Drop>(
     alloc: Global,
     mut lazy: A,

@@ -20,7 +20,7 @@ use std::alloc::Global;
 pub struct Settled {
     /// The settled day, in days since 1970-01-01.
     pub day: i64,
-    /// What was counted.
+    /// What was counted of the rules with COUNT, so that nobody counts it again.
     pub counts: Counts,
 }
 
@@ -31,12 +31,12 @@ struct LastOfRules {
     counts: Vec<Option<CycleCount>>,
 }
 
-/// The settled day of a series, in days since 1970-01-01: the day after the last of its
-/// start, its dates, added or taken out, and the UNTIL or else the last member of each rule that ends, excluded ones among
-/// them (RFC 5545, section 3.8.5). From it on the series repeats with its cycle.
+/// The settled day of a series, in days since 1970-01-01: the day after the last of its start, its dates, added or
+/// taken out, and the UNTIL, or if there is none the last member, of each rule that ends, excluded ones among them (RFC
+/// 5545, section 3.8.5). From it on the series repeats with its cycle.
 ///
-/// `CountedTooFar` exactly where a rule or an excluded rule with COUNT and no UNTIL has fewer members than it counts up to
-/// `MAX_SPAN_DAYS` days after the start's day.
+/// `CountedTooFar` comes exactly if a rule or an excluded rule with COUNT and no UNTIL has fewer members than it counts
+/// up to `MAX_SPAN_DAYS` days after the start's day.
 pub fn ends(alloc: Global, series: &Checked) -> Result<i64, Fault>
     ensures settled { IfOk result (IsSettledDay series.now) }
     ensures near { IfOk result (λ day. (first_day_of_all <ℤ day) × (day ≤ℤ pos 19_710_113)) }
@@ -115,7 +115,7 @@ fn last_of_rules(
     Ok(LastOfRules { day: last, counts })
 }
 
-// What was counted of one rule more.
+// Puts what was counted of a rule after what was counted of those before it.
 fn put(counts: &mut Vec<Option<CycleCount>>, counted: Option<CycleCount>) -> Result<(), NoMemory>
     ensures { OnOk result (counts.new.items ≡ counts.old.items ++ counted ∷ []) }
 {

@@ -55,7 +55,7 @@ fn file_value(alloc: Global, file: &FileFacts) -> Result<Value, NoMemory>
     Ok(value_of_file(alloc, file, offset, sum.as_str())?)
 }
 
-// A name, or nothing.
+// The JSON string of a name, or null if there is none.
 fn name_value(alloc: Global, name: Option<&str>) -> Result<Value, NoMemory>
     ensures { IfOk result (λ value. view value
         ≡ name_json (option_map (λ (name : Bor (List ℕ)). name.now) name.entry)) }

@@ -11,7 +11,7 @@ use rr_trip::push_key;
 use serde_json::{Map, Value, put};
 use std::alloc::Global;
 
-/// A text in UTF-8.
+/// The JSON string of a text in UTF-8.
 pub(crate) fn utf8_value(alloc: Global, text: &[u8]) -> Result<Value, NoMemory>
     requires { IsUtf8 text.now }
     ensures { IfOk result (λ value. view value ≡ string text.now) }

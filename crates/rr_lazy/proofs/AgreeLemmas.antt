@@ -86,7 +86,7 @@ module _ (rule : Rule) (kind : Kind) (start t : ℤ) (in_years : IsInYears kind 
       late : stands_in chosen kind t ≡ true → int_le t at ≡ true → stands_in (upto chosen kind at) kind t ≡ true
       late c l = and_from (stands_in chosen kind t) _ c (rw (moment_is kind t).1 l)
 
-  -- of a tree that counts, where its count is the member's number
+  -- of a tree that counts, if its count is the member's number
   within_count : (tree : Tree) (count : ℕ) → number_in tree ≡ members_to rule kind start t → nat_le (number_in tree) count ≡ true
       → members_to rule kind start t ≤ count
   within_count tree count c u = let v : number_in tree ≤ count = grind (arith, nat_tests) in omega (arith, c, v)

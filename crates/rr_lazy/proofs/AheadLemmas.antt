@@ -62,7 +62,7 @@ this_day ahead result day found e w =
       | inr m ↦ absurd (cc)
     ]
 
--- what is known of no day that is seen is known where the part gave none
+-- what is known of no day that is seen is known if the part gave none
 pub seen_none : (sets : List (List ℕ)) (ahead : Option OccupiedDay) (P : Type 0) → ForNone ahead P → ForNone (day_seen sets ahead) P
 seen_none sets None P n e = n refl
 seen_none sets (Some f) P n e = absurd (cc)
@@ -105,7 +105,7 @@ none_below t own from q (Some x) k some none u s l m = (k.some x refl).before u 
 pub neither : (t u : Tree) (from q : ℤ) → HasNone t from q → HasNone u from q → HasNone (union t u) from q
 neither t u from q a b e s l m = rw (a e s l m, b e s l m) refl
 
--- one side where no day was given
+-- one side if no day was given
 pub side_none : (t : Tree) (own from to q : ℤ) (ahead : Option DayTimes) → IsAhead t own from ahead → from ≤ℤ q → (q ≡ to +ℤ pos 1) ⊎ (q ≡ from)
     → ForSome ahead (λ x. to <ℤ x.day) → ForNone ahead (to <ℤ own) → IsAhead t own q ahead × HasNone t from q
 side_none t own from to q ahead k l (inl e) some none =
@@ -206,7 +206,7 @@ unasked_ahead t own u = record {
 pub unasked_in : (sets : List (List ℕ)) (t : Tree) (own : ℤ) → IsUnasked own → IsAheadIn sets t own (negsuc 719_161) None
 unasked_in sets t own u = record { within = λ f e. absurd (cc); known = unasked_ahead t own u }
 
--- one side where no day was given
+-- one side if no day was given
 pub side_none_in : (sets : List (List ℕ)) (t : Tree) (own from to q : ℤ) (ahead : Option OccupiedDay) → IsAheadIn sets t own from ahead
     → from ≤ℤ q → (q ≡ to +ℤ pos 1) ⊎ (q ≡ from) → ForSome (day_seen sets ahead) (λ x. to <ℤ x.day) → ForNone ahead (to <ℤ own)
     → IsAheadIn sets t own q ahead × HasNone t from q

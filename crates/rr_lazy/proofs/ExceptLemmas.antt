@@ -65,7 +65,7 @@ out_passed sets tree own day found k l =
           absurd (omega (arith, ints, a, b, given.own_next)));
     }
 
--- what it has on a day, where what it gave is not before that day
+-- what it has on a day, if what it gave is not before that day
 pub out_on_day : (sets : List (List ℕ)) (tree : Tree) (own day : ℤ) (ahead : Option OccupiedDay) → IsAheadUpTo sets (part_of tree own ahead) day
     → ForSome ahead (λ f. day ≤ℤ f.day) → ForNone ahead (day <ℤ own) → (s : ℕ) → (stands_at tree day s ≡ true) ↔ HasOn (day_seen sets ahead) day s
 out_on_day sets tree own day ahead k some none s =
@@ -77,7 +77,7 @@ gives_day : (ahead : Option OccupiedDay) (sets : List (List ℕ)) (day : ℤ) (s
 gives_day None sets day s h other = absurd h
 gives_day (Some f) sets day s h other = other f refl h.0
 
--- all of it, where the second part did not give the day
+-- all of it, if the second part did not give the day
 pub left_whole : (sets new : List (List ℕ)) (tree : Tree) (given : OccupiedDay) (ahead : Option OccupiedDay) → IsGivenOn new given
     → ((with_set new given).times) ≢ [] → with_set new given ≡ with_set sets given
     → ((s : ℕ) → (stands_at tree given.day s ≡ true) ↔ HasOn (day_seen new ahead) given.day s) → ForSome ahead (λ f. f.day ≡ given.day → ⊥)
@@ -98,7 +98,7 @@ left_whole sets new tree given ahead on some same stands other = (
       | false ↦ λ e. refl
     ] refl
 
--- what the second part lacks, where it gave the day
+-- what the second part lacks, if it gave the day
 pub left_lacking : (old mid new : List (List ℕ)) (tree : Tree) (given out : OccupiedDay) (ahead : Option OccupiedDay) (left : Option OccupiedDay)
     → with_set mid given ≡ with_set old given → ahead ≡ Some out → out.day ≡ given.day
     → ((s : ℕ) → (stands_at tree given.day s ≡ true) ↔ HasOn (day_seen mid ahead) given.day s) → IsLacking mid given out new left

@@ -160,7 +160,7 @@ module _ (tree : Tree) (own position : ℤ) (count left : ℕ) (k : IsCounting t
       ];
     }
 
--- a call where the part gave nothing
+-- a call if the part gave nothing
 pub first_none : (tree tree' : Tree) (own own' position to to' q : ℤ) (count left : ℕ) → IsCounting tree own position count left → 1 ≤ left
     → IsNext tree own to' (Ok None) own' → tree' ≡ tree → to' ≡ to → position ≤ℤ q → to <ℤ q → (q ≡ to +ℤ pos 1) ⊎ (q ≡ position)
     → IsCounting tree' own' q count left × HasNone (first_n tree count) position q
@@ -175,7 +175,7 @@ first_none tree tree' own own' position to to' q count left k h n e f kept past 
     let none : HasNone tree position q = rw (t, same) at n.0 in
     (rw (e, same) (nothing_moves tree own position count left k q h none kept), none_of_first tree own position count left k q none)
 
--- a call where the part gave a day
+-- a call if the part gave a day
 pub first_some : (tree tree' : Tree) (own own' position to to' q : ℤ) (found : DayTimes) (kept : List ℕ) (count left left' : ℕ)
     → IsCounting tree own position count left → 1 ≤ left
     → IsNext tree own to' (Ok (Some found)) own' → tree' ≡ tree → to' ≡ to → kept ≡ take left found.times → q ≡ found.day +ℤ pos 1 → left' ≡ left - length kept

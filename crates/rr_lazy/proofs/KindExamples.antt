@@ -4,7 +4,7 @@ use Rattle.std.specs.Prelude.{None, Some}
 use Rattle.rr_model.specs.Sets.Tree.{dates_of, first_n, many, union, nothing, part, kind_in, or_days}
 use Rattle.rr_model.specs.declared.kind.Kind.TheVariants.{Days, Moments}
 
--- the kind of its first leaf, and none where it has no leaf
+-- the kind of its first leaf, and none if it has no leaf
 of_trees :
     (kind_in (union (many nothing) (dates_of Moments [])) ≡ Some Moments)
     × (kind_in (first_n (many (part (dates_of Days (pos 1 ∷ [])) nothing)) 3) ≡ Some Days)

@@ -8,7 +8,7 @@ use Rattle.rr_model.specs.Sets.Tree.{IsOfOneKind, kind_in, kind_in_some}
 use Rattle.rr_model.specs.declared.kind.Kind.{Kind}
 use Rattle.rr_model.specs.declared.kind.Kind.TheVariants.{Days}
 
--- the first of two, where each is this kind or none
+-- the first of two, if each is this kind or none
 either_is : (k : Kind) (x y : Option Kind) → (x ≡ None) ⊎ (x ≡ Some k) → (y ≡ None) ⊎ (y ≡ Some k) → (option_or x y ≡ None) ⊎ (option_or x y ≡ Some k)
 either_is k None y a b = b
 either_is k (Some j) y a b = a

@@ -93,7 +93,7 @@ module _ (tree : Tree) (count : ℕ) (from : ℤ) (begun : first_day_of_year (po
       let tested : nat_le (count_to stands x.0 x.1) count ≡ true = grind (arith, nat_tests) in
       (x.0, x.1, x.2.late, rw x.2.stands tested)
 
-  -- and the other way round: one of the first stands from the day on only where fewer lie before it
+  -- and the other way round: one of the first stands from the day on only if fewer lie before it
   pub few_before : (d : ℤ) (s : ℕ) → from ≤ℤ d → stands_at (first_n tree count) d s ≡ true → count_before stands from < count
   few_before d s l t =
       let here : stands_at tree d s ≡ true = (and_parts _ _ t).0 in

@@ -28,7 +28,7 @@ pub seen_some : (sets : List (List ℕ)) (ahead : Option OccupiedDay) (q : ℤ) 
 seen_some sets None q some f e = absurd (cc)
 seen_some sets (Some g) q some f e = (let i : f ≡ with_set sets g = cc in rw i (some g refl))
 
--- where nothing is left of some seconds, each was taken out
+-- if nothing is left of some seconds, each was taken out
 pub all_taken : (times left : List ℕ) (out : ℕ → Bool) → ((s : ℕ) → Contains left s ↔ (Contains times s × (out s ≡ false))) → left ≡ [] → (s : ℕ)
     → Contains times s → out s ≡ true
 all_taken times left out is e s c = elim (out s) as (λ b. out s ≡ b → b ≡ true) [

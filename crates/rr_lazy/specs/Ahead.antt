@@ -47,7 +47,7 @@ abbrev pub GaveDay : Option DayTimes → ℤ → Type 0
 GaveDay None day = ⊥
 GaveDay (Some f) day = f.day ≡ day
 
--- the lesser of two days that are known, where it is not after `to`
+-- the lesser of two days that are known, if it is not after `to`
 abbrev pub IsFirstOfBoth : Option DayTimes → Option DayTimes → ℤ → Option ℤ → Type 0
 IsFirstOfBoth a b to (Some d) = (d ≤ℤ to) × (GaveDay a d ⊎ GaveDay b d) × ForSome a (λ f. d ≤ℤ f.day) × ForSome b (λ f. d ≤ℤ f.day)
 IsFirstOfBoth a b to None = ForSome a (λ f. to <ℤ f.day) × ForSome b (λ f. to <ℤ f.day)
@@ -61,7 +61,7 @@ IsLeftAfterDay (Some f) day r = ((f.day ≡ day) × (r ≡ None)) ⊎ ((f.day �
 abbrev pub HasForgotten : Option OccupiedDay → ℤ → Option OccupiedDay → Type 0
 HasForgotten old day new = (sets : List (List ℕ)) → IsLeftAfterDay (day_seen sets old) day (day_seen sets new)
 
--- what a part gave, where it is this day, and nothing where it is none or another day
+-- what a part gave, if it is this day, and nothing if it is none or another day
 abbrev pub IsOfDay : Option OccupiedDay → ℤ → Option OccupiedDay → Type 0
 IsOfDay ahead day result = ((result ≡ ahead) × ForSome ahead (λ f. f.day ≡ day)) ⊎ ((result ≡ None) × ForSome ahead (λ f. f.day ≡ day → ⊥))
 
@@ -70,7 +70,7 @@ pub record IsGivenOn (sets : List (List ℕ)) (found : OccupiedDay) : Type 0 whe
   pub within : IsInTable sets found
   pub rises : Rises nat_lt ((with_set sets found).times)
 
--- What two parts gave for a day: all seconds of both, and nothing where neither gave it.
+-- What two parts gave for a day: all seconds of both, and nothing if neither gave it.
 abbrev pub IsGivenByBoth : List (List ℕ) → Option OccupiedDay → Option OccupiedDay → ℤ → List (List ℕ) → Option OccupiedDay → Type 0
 IsGivenByBoth old a b day new None = (GaveDay (day_seen old a) day → ⊥) × (GaveDay (day_seen old b) day → ⊥)
 IsGivenByBoth old a b day new (Some found) =

@@ -30,14 +30,14 @@ pub record KnowsBoth (sets : List (List ℕ)) (a b : Part) (position : ℤ) : Ty
 abbrev pub KnowsBothFromSome : List (List ℕ) → Part → Part → Type 0
 KnowsBothFromSome sets a b = (position : ℤ) × (first_day_of_year (pos 1) ≤ℤ position) × KnowsBoth sets a b position
 
--- the seconds of a day that one part gave and another, which gave the day too, lacks; None where it lacks none
+-- the seconds of a day that one part gave and another, which gave the day too, lacks; None if it lacks none
 abbrev pub IsLacking : List (List ℕ) → OccupiedDay → OccupiedDay → List (List ℕ) → Option OccupiedDay → Type 0
 IsLacking old a b new None = (s : ℕ) → Contains ((with_set old a).times) s → ¬ ¬ Contains ((with_set old b).times) s
 IsLacking old a b new (Some found) =
     (found.day ≡ a.day) × IsGivenOn new found × (((with_set new found).times) ≢ [])
     × ((s : ℕ) → Contains ((with_set new found).times) s ↔ (Contains ((with_set old a).times) s × ¬ Contains ((with_set old b).times) s))
 
--- what is left of a day once what stands in a tree is taken out; None where nothing is
+-- what is left of a day once what stands in a tree is taken out; None if nothing is
 abbrev pub IsLeftBy : List (List ℕ) → Tree → OccupiedDay → List (List ℕ) → Option OccupiedDay → Type 0
 IsLeftBy old out given new None = (s : ℕ) → Contains ((with_set old given).times) s → stands_at out given.day s ≡ true
 IsLeftBy old out given new (Some found) =
@@ -45,7 +45,7 @@ IsLeftBy old out given new (Some found) =
     × ((s : ℕ) → Contains ((with_set new found).times) s ↔ (Contains ((with_set old given).times) s × (stands_at out given.day s ≡ false)))
 
 -- What is given up to a day once the second part is taken out, by what was known of both before and is known after: a day of which
--- something is left, and no such day was passed over; or nothing, where what is known of the first part after it lies past the day.
+-- something is left, and no such day was passed over; or nothing, if what is known of the first part after it lies past the day.
 abbrev pub IsNextOfBoth : List (List ℕ) → List (List ℕ) → Part → Part → Part → Part → ℤ → Result (Option OccupiedDay) NoMemory → Type 0
 IsNextOfBoth old new a a' b b' to (Ok (Some found)) =
     (position : ℤ) → KnowsBoth old a b position

@@ -5,7 +5,8 @@ use Rattle.rr_model.specs.Sets.Counting.{count_before}
 use Rattle.rr_model.specs.Sets.Tree.{Tree, first_n, stands_at}
 use Rattle.rr_lazy.specs.Next.{IsSoundLazy}
 
--- `left` occurrences of the tree are still to be given from the position on, where the part stands too; or none, wherever it stands.
+-- `left` occurrences of the tree are still to be given from the position on, at which the part stands too; or none,
+-- wherever it stands.
 pub record IsCounting (tree : Tree) (own position : ℤ) (count left : ℕ) : Type 0 where
   pub begun : first_day_of_year (pos 1) ≤ℤ position
   pub together : 1 ≤ left → own ≡ position

@@ -33,7 +33,7 @@ GaveDaySome {X} ahead parts day = (k : ℕ) × (k < length parts) × ((d : X) �
 abbrev pub HasOnSome : {X : Type 0} → (X → Option DayTimes) → List X → ℕ → ℤ → ℕ → Type 0
 HasOnSome {X} ahead parts count day s = (k : ℕ) × (k < count) × (k < length parts) × ((d : X) → HasOn (ahead (get_or parts k d)) day s)
 
--- What the first n parts gave for a day: all seconds of those that gave it, and nothing where none did.
+-- What the first n parts gave for a day: all seconds of those that gave it, and nothing if none did.
 abbrev pub IsGivenBySome : {X : Type 0} → List (List ℕ) → (X → Option OccupiedDay) → List X → ℕ → ℤ → List (List ℕ) → Option OccupiedDay → Type 0
 IsGivenBySome {X} old ahead parts count day new None = (k : ℕ) → k < count → k < length parts → (d : X) → GaveDay (day_seen old (ahead (get_or parts k d))) day → ⊥
 IsGivenBySome {X} old ahead parts count day new (Some found) =

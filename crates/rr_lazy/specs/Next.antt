@@ -34,7 +34,7 @@ with_set sets f = record { day = f.day; times = take f.count (get_or sets f.numb
 abbrev pub IsInTable : List (List ℕ) → OccupiedDay → Type 0
 IsInTable sets f = (f.number.index < length sets) × (f.count ≤ length (get_or sets f.number.index []))
 
--- What a call of `next` does where the seconds are told by a number.
+-- What a call of `next` does if the seconds are told by a number.
 abbrev pub IsNextIn : List (List ℕ) → Tree → ℤ → ℤ → Result (Option OccupiedDay) NoMemory → ℤ → Type 0
 IsNextIn sets tree old to (Ok (Some found)) new = IsInTable sets found × IsNext tree old to (Ok (Some (with_set sets found))) new
 IsNextIn sets tree old to (Ok None) new = IsNext tree old to (Ok None) new

@@ -2,7 +2,8 @@
 use Rattle.std.specs.Prelude.{◌≡◌, ◌⊎◌, List, [], ◌∷◌, Option, Some, None, ℤ, pos, ◌+ℤ◌, ◌≤ℤ◌, ◌<ℤ◌}
 use Rattle.rr_lazy.specs.declared.occupied_day.OccupiedDay.{OccupiedDay}
 
--- Where the next call looks after an answer: at the day after the one that was found, or else after the last one that was asked for.
+-- Where the next call looks after an answer: at the day after the one that was found, otherwise after the last one that
+-- was asked for.
 abbrev pub IsAfter : Option OccupiedDay → ℤ → ℤ → ℤ → Type 0
 IsAfter (Some found) from to next = next ≡ found.day +ℤ pos 1
 IsAfter None from to next = (from ≤ℤ next) × (to <ℤ next) × ((next ≡ to +ℤ pos 1) ⊎ (next ≡ from))

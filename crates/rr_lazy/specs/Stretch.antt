@@ -19,7 +19,7 @@ pub record IsFirstFrom (kind : Kind) (dates : List ℤ) (day : ℤ) (index : ℕ
   pub below : (k : ℕ) → k < index → day_part kind (get_or dates k (pos 0)) <ℤ day
   pub from : (k : ℕ) → index ≤ k → k < length dates → day ≤ℤ day_part kind (get_or dates k (pos 0))
 
--- the first day from `from` on and not after `to` that has a date; None where none has
+-- the first day from `from` on and not after `to` that has a date; None if none has
 abbrev pub IsFirstDate : Kind → List ℤ → ℤ → ℤ → Option ℤ → Type 0
 IsFirstDate kind dates from to (Some day) =
     (from ≤ℤ day) × (day ≤ℤ to) × HasNone (dates_of kind dates) from day × ((s : ℕ) × (is_among kind dates day s ≡ true))
@@ -29,7 +29,7 @@ pub sound_dates : (kind : Kind) (dates : List ℤ) (position : ℤ) → All (IsI
     → IsSoundLazy (dates_of kind dates) position
 sound_dates kind dates position k b = record { of_kind = (λ i. kind, k); in_years = b }
 
--- What is left of a day once dates are taken out; None where nothing is.
+-- What is left of a day once dates are taken out; None if nothing is.
 abbrev pub IsLeftOf : List (List ℕ) → Kind → List ℤ → OccupiedDay → List (List ℕ) → Option OccupiedDay → Type 0
 IsLeftOf old kind dates given new None = (s : ℕ) → Contains ((with_set old given).times) s → is_among kind dates given.day s ≡ true
 IsLeftOf old kind dates given new (Some found) =
@@ -53,7 +53,7 @@ abbrev pub LosesDates : Kind → List ℤ → ℤ → List ℕ → List ℕ → 
 LosesDates kind dates day old new = (s : ℕ) → Contains new s ↔ (Contains old s × (is_among kind dates day s ≡ false))
 
 -- What a part gives up to a day once dates are taken out, by what was known of it before and is known of it after: a day of which
--- something is left, and no such day was passed over; or nothing, where what is known of it after lies past the day.
+-- something is left, and no such day was passed over; or nothing, if what is known of it after lies past the day.
 abbrev pub IsNextLeft : List (List ℕ) → List (List ℕ) → Tree → Kind → List ℤ → ℤ → ℤ → Option OccupiedDay → Option OccupiedDay → ℤ
     → Result (Option OccupiedDay) NoMemory → Type 0
 IsNextLeft old new tree kind dates own own' ahead ahead' to (Ok (Some found)) =

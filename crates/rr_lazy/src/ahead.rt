@@ -41,7 +41,7 @@ pub(crate) fn fill<L: Lazy>(
     Ok(())
 }
 
-// The seconds that two parts gave for a day; none where neither gave it. Where one alone gave it, its own number stands.
+// The seconds that two parts gave for a day; none if neither gave it. If one alone gave it, its own number stands.
 pub(crate) fn on_day(
     alloc: Global,
     sets: &mut SetTable,

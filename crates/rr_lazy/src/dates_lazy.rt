@@ -24,7 +24,7 @@ pub struct DatesLazy {
 impl DatesLazy {
     ghost use Rattle.rr_model.specs.Sets.Tree.{dates_of};
 
-    /// The days of rising dates.
+    /// An iterator over the days of rising dates of the years 1 to 9999, which has not been asked.
     pub fn new(kind: Kind, dates: Dates) -> DatesLazy
         requires in_years { All (IsInYears kind) dates }
         ensures tree { ⟦<DatesLazy as Lazy>⟧.tree result ≡ dates_of kind dates }

@@ -134,7 +134,7 @@ fn next_of_both<A: Lazy + Drop, B: Lazy + Drop>(
     }
 }
 
-// What is left of a day that the first part gave once the second one is taken out; none where nothing is. The days of the
+// What is left of a day that the first part gave once the second one is taken out; none if nothing is. The days of the
 // second part before it are passed over.
 fn left_of<B: Lazy>(
     alloc: Global,
@@ -197,7 +197,7 @@ fn pass_to<B: Lazy>(
     }
 }
 
-// The seconds of a day that one part gave and another, which gave the day too, lacks; none where it lacks none.
+// The seconds of a day that one part gave and another, which gave the day too, lacks; none if it lacks none.
 fn seconds_lacking(
     alloc: Global,
     sets: &mut SetTable,

@@ -15,7 +15,7 @@ use std::alloc::Global;
 /// It stands for a tree of rules and dates, and has a position, the day from which on it looks. The seconds of a day are
 /// told by a number in a table of sets, which is the same in every call and can serve several iterators.
 pub trait Lazy {
-    /// What it stands for.
+    /// The tree of rules and dates that it stands for.
     ghost tree: { Self → Tree };
 
     /// The day from which on the next call looks.
@@ -26,8 +26,8 @@ pub trait Lazy {
 
     /// The first occupied day from the position up to `to`, with all its seconds; the position is then the day after it.
     ///
-    /// None exactly where no day from the position up to `to` is occupied; the position is then the day after `to`, or
-    /// stays where it was past it. After out of memory the position is as it was.
+    /// None exactly if no day from the position up to `to` is occupied; the position is then the day after `to`, or
+    /// stays if it was past it. After out of memory the position is as it was.
     fn next(
         &mut self,
         alloc: Global,

@@ -35,7 +35,7 @@ impl<A: Lazy + Drop> Many<A> {
     ghost use Rattle.rr_model.specs.Sets.Tree.{many, nothing};
     ghost use Rattle.rr_lazy.specs.Many.{tree_with_part};
 
-    /// No part; it takes no memory.
+    /// An iterator over no parts, which has no day until one is put; it takes no memory.
     pub fn new(alloc: Global) -> Many<A>
         ensures tree { ⟦<Many<A> as Lazy>⟧.tree result ≡ many nothing }
         ensures unasked { IsUnasked (⟦<Many<A> as Lazy>⟧.position result) }
@@ -230,7 +230,7 @@ fn lesser(day: i64, ahead: Option<OccupiedDay>) -> i64
     }
 }
 
-// The seconds that parts gave for a day; none where no part gave it.
+// The seconds that parts gave for a day; none if no part gave it.
 fn all_on<A: Lazy + Drop>(
     alloc: Global,
     sets: &mut SetTable,

@@ -5,7 +5,7 @@ use rr_shapes::SetId;
 /// An occupied day; its seconds are the first `count` ones of a set in a table.
 #[derive(Clone, Copy)]
 pub struct OccupiedDay {
-    /// The day number.
+    /// The day, in days since 1970-01-01.
     pub day: i64,
     /// The number of its time set in the table that was handed to `next`.
     pub number: SetId,

@@ -114,7 +114,7 @@ impl<A: Lazy + Drop, B: Lazy + Drop> Lazy for Union<A, B> {
     }
 }
 
-// The lesser of the days that two parts gave, where it is not after `to`.
+// The lesser of the days that two parts gave, if it is not after `to`.
 fn first_of_both(a: Option<OccupiedDay>, b: Option<OccupiedDay>, to: i64) -> Option<i64>
     ensures { (sets : List (List ℕ)) → IsFirstOfBoth (day_seen sets a) (day_seen sets b) to result }
 {

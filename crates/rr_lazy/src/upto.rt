@@ -30,7 +30,8 @@ pub struct Upto<A: Lazy + Drop> {
 }
 
 impl<A: Lazy + Drop> Upto<A> {
-    /// The occurrences, up to a moment of their kind, of a part that has not been asked.
+    /// The occurrences of a part, which has not been asked, up to a moment of their kind, in days or seconds since
+    /// 1970-01-01.
     pub fn new(lazy: A, kind: Kind, at: i64) -> Upto<A>
         requires one_kind { IsOfOneKind (upto (A.tree lazy) kind at) }
         requires unasked { IsUnasked (A.position lazy) }

@@ -128,7 +128,7 @@ fn next_left<A: Lazy + Drop>(
     }
 }
 
-// What is left of a day once the dates are taken out; none where nothing is.
+// What is left of a day once the dates are taken out; none if nothing is.
 fn left_of(
     alloc: Global,
     sets: &mut SetTable,

@@ -48,7 +48,7 @@ seconds_on text = part_rest 77 (minutes_on text)
 abbrev pub time_seconds : List ℕ → ℕ
 time_seconds text = part_value 72 text * 3_600 + part_value 77 (minutes_on text) * 60 + part_value 83 (seconds_on text)
 
--- a time after so many days
+-- a length of these days and a time
 abbrev pub timed : ℕ → List ℕ → Option Length
 timed days [] = None
 timed days (b ∷ bs) = if is_nothing (part_rest 83 (seconds_on (b ∷ bs))) then Some (length_of days (time_seconds (b ∷ bs))) else None

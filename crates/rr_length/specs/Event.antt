@@ -36,7 +36,8 @@ end_length start end =
     then option_and_then (λ (from : Stamp). option_and_then (λ (to : Stamp). span_between from to) (stamp_on end)) (stamp_on start)
     else None
 
--- by so many lines of an end and of a duration: neither, one end, or one duration; no length otherwise
+-- the length by how many lines of an end and of a duration there are: neither, one end, or one duration; no length
+-- otherwise
 abbrev pub length_by : ℕ → ℕ → Line → Stamp → List Line → Option Length
 length_by ends durations line start own =
     if (ends == 0) && (durations == 0) then Some (unstated start.kind)

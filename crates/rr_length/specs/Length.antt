@@ -7,7 +7,7 @@ use Rattle.rr_model.specs.declared.kind.Kind.TheVariants.{Days, Moments}
 use Rattle.rr_model.specs.declared.stamp.Stamp.{Stamp}
 use Rattle.rr_length.specs.declared.length.Length.{Length}
 
--- so many days and so many seconds
+-- a length of these days and these seconds
 abbrev pub length_of : ℕ → ℕ → Length
 length_of days seconds = record { days = days; seconds = seconds }
 
@@ -40,7 +40,7 @@ length_text l = if l.days == 0 then decimal l.seconds else decimal l.days ++ cod
 
 -- ---- from a start to an end
 
--- so many dates or seconds
+-- the length of n dates or of n seconds
 abbrev pub span_of : Kind → ℕ → Length
 span_of Days n = length_of n 0
 span_of Moments n = length_of 0 n

@@ -18,7 +18,7 @@ lengths_of usual dated = record { usual = usual; dated = dated }
 
 -- ---- dated lengths in order
 
--- where a dated length stands
+-- when the occurrence of a dated length starts
 abbrev pub at_of : Dated → ℤ
 at_of dated = dated.at
 

@@ -77,7 +77,7 @@ fn part_of(letter: u8, text: &[u8]) -> Part<'_>
     }
 }
 
-// A time after so many days: hours, minutes and seconds in this order, one of them at least.
+// A length of `days` days and a time: hours, minutes and seconds in this order, one of them at least.
 fn timed(days: u64, text: &[u8]) -> Option<Length>
     ensures { result ≡ timed days text.now }
 {

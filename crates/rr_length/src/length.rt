@@ -4,13 +4,13 @@ ghost use Rattle.rr_length.specs.Length.{is_longer, is_same_length, longer_of, u
 
 use rr_model::Kind;
 
-/// How long an occurrence is: so many days of the calendar, and so many exact seconds after them (RFC 5545, section 3.3.6). A day
+/// How long an occurrence is: whole days of the calendar, and exact seconds after them (RFC 5545, section 3.3.6). A day
 /// may last 23 or 25 hours, so one day and 86,400 seconds are two lengths.
 #[derive(Clone, Copy, Debug, PartialEq, Eq)]
 pub struct Length {
     /// Days of the calendar; those of weeks too.
     pub days: u64,
-    /// Seconds.
+    /// Exact seconds; those of hours and minutes too.
     pub seconds: u64,
 }
 
@@ -45,7 +45,7 @@ impl Length {
         self.days > other.days || self.days == other.days && self.seconds > other.seconds
     }
 
-    /// The longer of two lengths.
+    /// The longer of two lengths; of two that are alike `self`.
     pub fn longer_of(self, other: Length) -> Length
         ensures { result ≡ longer_of self other }
     {

@@ -9,7 +9,7 @@ use std::marker::Model;
 pub struct Dated {
     /// Where it starts: days since 1970-01-01 of a date, seconds since its midnight of a moment.
     pub at: i64,
-    /// Its length.
+    /// How long the occurrence lasts.
     pub length: Length,
 }
 
@@ -40,7 +40,7 @@ impl Model for KeyLengths {
 }
 
 impl KeyLengths {
-    /// The usual length, and dated ones in any order.
+    /// The lengths of a key: the usual one, and dated ones in any order.
     pub fn of(usual: Length, dated: Vec<Dated>) -> KeyLengths
         ensures { result ≡ record { usual = usual; dated = dated.items } }
     {

@@ -6,7 +6,7 @@ use crate::lengths::Dated;
 use rr_model::NoMemory;
 use std::alloc::Global;
 
-// A copy in order.
+// A copy of dated lengths, ordered by their starts.
 fn in_order(alloc: Global, dated: &[Dated]) -> Result<Vec<Dated>, NoMemory>
     ensures ordered { IfOk result (λ ds. HasOrderedDates ds.items) }
     ensures same { IfOk result (λ ds. HaveOneLongest ds.items dated.now) }
@@ -17,7 +17,7 @@ fn in_order(alloc: Global, dated: &[Dated]) -> Result<Vec<Dated>, NoMemory>
     Ok(found)
 }
 
-// Of dated lengths in order the longest of each moment.
+// The longest length at each moment, of dated lengths in order.
 fn longest_of_each(alloc: Global, dated: &[Dated]) -> Result<Vec<Dated>, NoMemory>
     requires { HasOrderedDates dated.now }
     ensures rising { IfOk result (λ ds. HasRisingDates ds.items) }

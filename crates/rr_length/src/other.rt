@@ -14,11 +14,11 @@ use std::alloc::Global;
 /// The first occurrence that has two lengths.
 #[derive(Clone, Copy, Debug, PartialEq, Eq)]
 pub struct OtherLength {
-    /// Its day number, or its second number.
+    /// Days since 1970-01-01 of a date, seconds since its midnight of a moment.
     pub at: i64,
-    /// Its length in A.
+    /// How long it lasts by A.
     pub a: Length,
-    /// Its length in B.
+    /// How long it lasts by B.
     pub b: Length,
 }
 
@@ -69,9 +69,10 @@ fn other_of_rising<S: DaySeq>(
 
 /// The first occurrence of a sequence that has one length by A and another one by B.
 ///
-/// `None` comes if each has one length by both, and if a dated length of either stands more than 1,000,000,000,000 from 0, as no date and
-/// no moment of the years 1 to 9999 does. If both usual lengths are one, the sequence is asked at dated starts alone; otherwise for one
-/// occurrence more at most than there are dated lengths. `Err` comes if there is no memory for a sorted copy of these.
+/// `None` comes if each has one length by both, and if a dated length of either stands more than 1,000,000,000,000 from
+/// 0, as no date and no moment of the years 1 to 9999 does. If both usual lengths are one, the sequence is asked at
+/// dated starts alone; otherwise for at most as many occurrences as there are dated lengths, and one. `Err` comes if
+/// there is no memory for a sorted copy of these.
 pub fn first_other_length<S: DaySeq>(
     alloc: Global,
     sequence: &S,

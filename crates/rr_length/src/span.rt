@@ -5,7 +5,7 @@ ghost use Rattle.rr_length.specs.Length.{is_same_mark, is_span, span_between, sp
 use crate::length::Length;
 use rr_model::{Kind, Stamp};
 
-// So many dates or seconds.
+// The length of `count` dates, which are days, or of `count` seconds.
 fn span_of(kind: Kind, count: u64) -> Length
     ensures { result ≡ span_of kind count }
 {
@@ -35,7 +35,7 @@ fn is_span(start: Stamp, end: Stamp) -> bool
     start.kind.is_same(end.kind) && is_same_mark(start.utc, end.utc) && start.at <= end.at
 }
 
-/// The length from a start to an end (RFC 5545, sections 3.8.2.2 and 3.8.5.3): of dates so many days, of moments so many seconds.
+/// The length from a start to an end (RFC 5545, sections 3.8.2.2 and 3.8.5.3): of dates in days, of moments in seconds.
 ///
 /// `None` comes if one is a date and the other a moment, if only one is of UTC, and if the end comes before the start.
 pub fn span_between(start: Stamp, end: Stamp) -> Option<Length>

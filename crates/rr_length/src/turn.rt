@@ -53,7 +53,8 @@ fn earlier(one: i64, other: i64) -> i64
     if other < one { other } else { one }
 }
 
-/// The first moment of two lists of rising dated lengths.
+/// When the first occurrence of two lists of rising dated lengths starts, in days or seconds since 1970-01-01; `None`
+/// if both are empty.
 pub fn first_date(of_a: &[Dated], of_b: &[Dated]) -> Option<i64>
     ensures { result ≡ first_date of_a.now of_b.now }
 {

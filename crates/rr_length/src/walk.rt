@@ -15,9 +15,9 @@ use rr_word::DaySeq;
 /// A length of A, and one of B.
 #[derive(Clone, Copy)]
 pub struct Both {
-    /// That of A.
+    /// How long an occurrence lasts by A.
     pub a: Length,
-    /// That of B.
+    /// How long an occurrence lasts by B.
     pub b: Length,
 }
 
@@ -113,7 +113,8 @@ fn later(at: i64, date: i64) -> i64
     if at <= date { date + 1 } else { at }
 }
 
-/// The first occurrence from a moment on that has two lengths by the usual ones and by rising dated ones.
+/// The first occurrence from a moment on, in days or seconds since 1970-01-01, that has two lengths by the usual ones
+/// and by rising dated ones; `None` if each has one.
 pub fn other_from<S: DaySeq>(
     sequence: &S,
     from: i64,

@@ -17,7 +17,7 @@ use Rattle.rr_lenient.specs.Ends.{has_other_end, with_ends_of_kind}
 
 -- ---- the first moment that is chosen
 
--- the first of so many moments, from this one on, that the rule chooses from the start
+-- the first of n moments in a row, from this one on, that the rule chooses from the start
 unfoldable pub chosen_among : Rule → Kind → ℤ → ℤ → ℕ → Option ℤ
 chosen_among rule kind start t zero = None
 chosen_among rule kind start t (suc n) = if is_chosen rule kind start t then Some t else chosen_among rule kind start (t +ℤ pos 1) n

@@ -11,7 +11,7 @@ use std::alloc::Global;
 /// A series as calendars show it, and how it is at odds with RFC 5545.
 #[derive(Drop)]
 pub struct Lenient {
-    /// The series.
+    /// The series as calendars show it.
     pub series: Series,
     /// Whether an UNTIL had another kind than the start (section 3.3.10).
     pub until: bool,

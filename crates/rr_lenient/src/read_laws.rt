@@ -2,7 +2,7 @@
 ghost use Rattle.rr_lenient.specs.ReadLaws.{ReadIsLenient};
 ghost use Rattle.rr_lenient.specs.Stated.{ReadKeyIsStated};
 
-/// A series is read as the function has it.
+/// What `read_of` makes of a series is a lenient reading of it, as `IsLenient` says.
 pub fn read_is_lenient()
     ensures { ReadIsLenient }
 {}

@@ -9,7 +9,7 @@ use Rattle.rr_seam.specs.declared.refusal.KeyFault.{KeyFault}
 use Rattle.rr_seam.specs.declared.refusal.KeyFault.TheVariants.{Refused, NoMemory}
 use Rattle.rr_seam.specs.declared.refusal.KeyRefusal.{KeyRefusal}
 
--- ---- what a call answers where it goes on, and where it ends
+-- ---- what a call answers if it goes on, and if it ends
 
 module _ {A B : Type 0} (f : A → Result B KeyRefusal) where
   pub goes_on : (m : Result A KeyRefusal) (x : A) (r : Result B KeyFault) → m ≡ Ok x → AnswersKey (f x) r → AnswersKey (m >=> f) r
@@ -30,7 +30,7 @@ pub at_event-fault : {A : Type 0} (line : ℕ) (m : Result A Refusal) (f : Fault
 at_event-fault line m (fault.Refused r) h = ap (at_event line) h
 at_event-fault line m fault.NoMemory h = tt
 
--- ---- what follows where the steps end well
+-- ---- what follows if the steps end well
 
 pub then_ok : {A B : Type 0} (m : Result A KeyRefusal) (f : A → Result B KeyRefusal) (y : B) → m >=> f ≡ Ok y → (x : A) × (m ≡ Ok x) × (f x ≡ Ok y)
 then_ok (Ok x) f y h = (x, refl, h)

@@ -28,7 +28,7 @@ use Rattle.rr_moved.proofs.KeyStepLemmas.{passed}
 
 -- ---- the edited series
 
--- a series that passes the limit of its dates is valid where it is valid but for them
+-- a series that passes the limit of its dates is valid if it is valid but for them
 few_dates : (place : ℕ) (series result : Series) → within_dates place series ≡ Ok result → (length series.plus + length series.minus ≤ MAX_DATES → IsValidSeries series)
     → IsValidSeries result
 few_dates place series result h valid =
@@ -128,7 +128,7 @@ moment_made kind place shifts next at years v h =
     let same : record shifts { moments = with_value int_lt shifts.moments at } ≡ next = cc in
     subst (AreInYears kind) same (moment_keeps kind shifts at years v)
 
--- what is answered where the answer is a value
+-- what is answered if the answer is a value
 pub answered : {A : Type 0} (wanted : Result A KeyRefusal) (r : Result A KeyFault) → AnswersKey wanted r → IfOk r (λ x. wanted ≡ Ok x)
 answered wanted (Ok x) h = h
 answered wanted (Err e) h = tt

@@ -13,8 +13,8 @@ use Rattle.rr_moved.specs.Moved.{Shifts, edited_series, series_of_starts}
 abbrev pub OccursWithInstances : Occurrences → Kind → List ℤ → List ℤ → Occurrences
 OccursWithInstances P kind moments starts k t = ((k ≡ kind) × Contains starts t) ⊎ (P k t × (Contains moments t → ⊥))
 
--- the series with its instances as dates: their starts, which no excluded rule has, are added, and their moments taken out but where
--- something starts
+-- the series with its instances as dates: their starts, which no excluded rule has, are added, and their moments are
+-- taken out, unless something starts there
 pub record IsWithInstances (series : Series) (moments starts : List ℤ) (edited : Series) : Type 0 where
   pub kind : edited.kind ≡ series.kind
   pub start : edited.start ≡ series.start

@@ -55,7 +55,7 @@ abbrev pub minus_without_starts : List ℤ → Shifts → List ℤ
 minus_without_starts minus shifts =
     with_values (with_values [] (values_outside shifts.starts minus)) (values_outside shifts.starts shifts.moments)
 
--- the series with the starts as dates that are added, and the moments taken out where nothing starts
+-- the series with the starts as dates that are added, and the moments taken out, unless something starts there
 abbrev pub with_shifts : Series → Shifts → Series
 with_shifts series shifts = record series {
   plus = with_values series.plus shifts.starts;

@@ -34,7 +34,7 @@ impl DateSet {
         }
     }
 
-    /// Puts a date, and says whether it was not there before.
+    /// Puts a date, in days or seconds since 1970-01-01, and says whether it was not there before.
     pub fn put(&mut self, at: i64) -> Result<bool, NoMemory>
         ensures put { OnOk result (self.new ≡ with_value int_lt self.old at) }
         ensures added { IfOk result (λ added. list_any (λ t. int_eq t at) self.old ≡ not added) }
@@ -42,7 +42,7 @@ impl DateSet {
         Ok(self.dates.insert(at)?)
     }
 
-    /// Puts several dates.
+    /// Puts each of several dates that is not there yet.
     pub fn put_all(&mut self, values: &[i64]) -> Result<(), NoMemory>
         ensures { OnOk result (self.new ≡ with_values self.old values.now) }
     {
@@ -52,7 +52,7 @@ impl DateSet {
         Ok(())
     }
 
-    /// The dates, rising.
+    /// All dates of the set, rising.
     pub fn dates(&self, alloc: Global) -> Result<Dates, NoMemory>
         ensures { IfOk result (λ dates. dates ≡ self.now) }
     {

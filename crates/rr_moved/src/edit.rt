@@ -27,7 +27,7 @@ impl Model for ShiftSets {
 }
 
 impl ShiftSets {
-    /// No instance is read yet; it takes no memory.
+    /// What instances take out and put in before one is read: nothing; it takes no memory.
     pub fn new(alloc: Global) -> ShiftSets
         ensures { result ≡ no_shifts }
     {
@@ -37,7 +37,8 @@ impl ShiftSets {
         }
     }
 
-    /// The moment of an instance is taken out. `TwoInstances` comes, with this place, if an instance took it out before.
+    /// Takes out the moment of an instance, in days or seconds since 1970-01-01. `TwoInstances` comes, with this place,
+    /// if an instance took it out before.
     pub fn take_out(self, place: u64, at: i64) -> Result<ShiftSets, KeyFault>
         ensures { AnswersKey (with_moment place self at) result }
     {
@@ -49,7 +50,7 @@ impl ShiftSets {
         }
     }
 
-    /// The start of an instance is put in.
+    /// Puts in the start of an instance, in days or seconds since 1970-01-01.
     pub fn put_in(self, at: i64) -> Result<ShiftSets, NoMemory>
         ensures { IfOk result (λ shifts. shifts ≡ with_start_at self at) }
     {
@@ -74,7 +75,7 @@ impl Model for Shifted {
     ghost view = { λ s. record { moments = s.moments; starts = s.starts } };
 }
 
-// The same moments, rising.
+// The moments that are taken out and those of starts, each as a rising list.
 fn rising_shifts(alloc: Global, shifts: &ShiftSets) -> Result<Shifted, NoMemory>
     ensures { IfOk result (λ shifted. shifted ≡ shifts.now) }
 {
@@ -153,7 +154,7 @@ fn series_of_starts(alloc: Global, kind: Kind, starts: &Dates) -> Result<Series,
     }
 }
 
-// The series with the starts as dates that are added, and the moments taken out where nothing starts.
+// The series with the starts as dates that are added, and the moments taken out, unless something starts there.
 fn with_shifts(alloc: Global, series: Series, shifted: &Shifted) -> Result<Series, NoMemory>
     ensures { IfOk result (λ made. made ≡ with_shifts series shifted.now) }
 {
@@ -191,7 +192,7 @@ fn edited_series(
     Err(KeyFault::Refused(KeyRefusal::ExcludedRule(place)))
 }
 
-// The starts alone.
+// The series of the starts of instances alone, if it has no more dates than a series may have.
 fn starts_alone(
     alloc: Global,
     place: u64,

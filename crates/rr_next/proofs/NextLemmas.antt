@@ -112,7 +112,7 @@ module _ (s : Sketch) (v : IsValidSketch s) (at : ℤ) (below : ℕ)
           let b = day_mono s.kind u t (omega (arith, ints, high)) in
           omega (arith, ints, a, b, d)
 
-  -- where none is left on the day, what comes from here on lies on a later day
+  -- if none is left on the day, what comes from here on lies on a later day
   later_day : length (times_on s (day_part s.kind at)) ≤ below → (u : ℤ) → at ≤ℤ u → StandsIn s s.kind u → (day_part s.kind at +ℤ pos 1) ≤ℤ day_part s.kind u
   later_day full u low h =
       let a = day_mono s.kind at u low in

@@ -5,7 +5,7 @@ use Rattle.rr_model.specs.Sets.Sketch.{StandsIn, times_on}
 use Rattle.rr_model.specs.declared.kind.Kind.{Kind}
 use Rattle.rr_model.specs.declared.sketch.Sketch.{Sketch}
 
--- the number lies below the end, where there is one
+-- the number lies below the end, if there is one
 abbrev pub IsBelow : Option ℤ → ℤ → Type 0
 IsBelow None t = ⊤
 IsBelow (Some end) t = t <ℤ end

@@ -17,7 +17,7 @@ advice side name =
     else if bytes_eq name (codes "CycleTooLong") && bytes_eq side (codes "both") then Some (codes "the two repeat together too late: 'rr equal A B' compares them for ever")
     else None
 
--- what stands before the first cut of a text, all where there is none
+-- what stands before the first cut of a text, all if there is none
 abbrev pub before_cut : List ℕ → Option (List ℕ × List ℕ) → List ℕ
 before_cut text None = text
 before_cut text (Some (before, after)) = before
@@ -60,7 +60,7 @@ note_on_calendar_refusal answer =
     then Some (codes "the file is one page of a list: join it with those that '@odata.nextLink' leads to")
     else None
 
--- what is said of so many events that are not compared for want of an offset
+-- what is said of this many events that are not compared for want of an offset
 abbrev pub note_on_utc : ℕ → Option (List ℕ)
 note_on_utc count =
     if count == 0 then None

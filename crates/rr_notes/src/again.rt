@@ -14,8 +14,8 @@ fn is_file(rt: &HostRuntime, name: &str) -> bool
     }
 }
 
-/// The bytes of a file of the disk, up to one byte more than the limit. There are none of standard input, a pipe or a device, which can
-/// be read once.
+/// The bytes of a file of the disk, read again: at most `limit` of them and the next. There are none of standard input,
+/// a pipe or a device, which can be read once.
 pub fn bytes_again(rt: &HostRuntime, name: &str, limit: usize) -> Option<Vec<u8>>
     requires { limit < 2 ^ 62 }
     ensures { IfSome result (λ _. bytes_eq name.now (codes "-") ≡ false) }

@@ -48,7 +48,7 @@ fn is_language(text: &str) -> bool {
     matches!(text, "ics" | "graph" | "vcal")
 }
 
-// The name of a file in its word, behind its language and its own offset; none where these are wrong.
+// The name of a file in its word, behind its language and its own offset; none if these are wrong.
 fn file_name(word: &str) -> Option<&str> {
     let Some((head, rest)) = word.split_once(':') else {
         return Some(word);
@@ -218,7 +218,8 @@ pub fn note_on_calendar_words(alloc: Global, words: &[&str]) -> Result<String, A
     visible(alloc, text.as_bytes())
 }
 
-/// What to do about the refusal of a file that an answer begins with. The first 64 bytes of the answer are enough.
+/// What to do about the refusal of a file that an answer begins with; `None` of an answer that begins with no refusal
+/// of which more is to be said. The first 64 bytes of the answer are enough.
 pub fn note_on_calendar_refusal(answer: &[u8]) -> Option<&'static str>
     ensures { option_map (λ text. text.now) result ≡ note_on_calendar_refusal answer.now }
 {

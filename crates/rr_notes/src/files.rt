@@ -1,17 +1,17 @@
-// Why a file could not be read, and what is said where nothing is printed.
+// Why a file could not be read, and what is said if nothing is printed.
 ghost use Rattle.rr_notes.specs.Visible.{IsVisibleNote};
 
 use crate::visible::{shown, visible};
 use std::alloc::{AllocError, Global};
 use std::io::ErrorKind;
 
-/// What is said where the output could not be put, or not all of it.
+/// What is said if the output could not be put, or not all of it.
 pub const WRITE_FAULT: &str = "the output could not be written";
 
-/// What is said where memory was wanting.
+/// What is said if memory was wanting.
 pub const NO_MEMORY: &str = "out of memory";
 
-/// What is said where a word is no text.
+/// What is said if a word is no text.
 pub const NO_TEXT: &str = "a word is no text in UTF-8";
 
 // Why a name could not be read, which is written as it is shown.

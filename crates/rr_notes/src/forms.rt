@@ -2,6 +2,7 @@
 // number from 1 to 100, and `A:series` an operand in one of the languages SERIES, which state a series. `translate` writes the languages TARGETS.
 
 // commands.txt: BEGIN (bench/commands.py writes these lines)
+/// A line for each command: its name, and what is wanted behind it.
 pub const FORMS: &str = "\
 equal A B
 within A B
@@ -29,9 +30,12 @@ explain REFUSAL
 version
 ";
 
+/// The words of all languages.
 pub const LANGUAGES: &str = "rrule vcal graph list canon rscale";
 
+/// The words of the languages whose texts state a series.
 pub const SERIES: &str = "rrule vcal graph list";
 
+/// The words of the languages that `translate` writes.
 pub const TARGETS: &str = "rrule vcal graph";
 // commands.txt: END

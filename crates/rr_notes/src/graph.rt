@@ -73,8 +73,8 @@ pub fn note_on_graph(alloc: Global, text: &[u8]) -> Result<Option<&'static str>,
     }
 }
 
-/// The same of a file, which is read once more, up to one byte more than the limit. Nothing is noted of standard input, a pipe or a
-/// device.
+/// What `rr` does not read of a file of Microsoft Graph, as `note_on_graph` says of its text. The file is read again,
+/// as by `bytes_again`. Nothing is noted of standard input, a pipe or a device.
 pub fn note_on_graph_of_file(rt: &HostRuntime, name: &str, limit: usize) -> Option<&'static str>
     requires { limit < 2 ^ 62 }
     ensures { IfSome result (λ text. IsGraphNote text.now) }

@@ -1,4 +1,4 @@
-// What to do about an answer, where that is another command or another word.
+// What to do about an answer, if that is another command or another word.
 ghost use Rattle.std.specs.Prelude.{◌≡◌, map, option_map};
 ghost use Rattle.rr_notes.specs.Advice.{advice, before_blank, note_on_line, note_on_no, note_on_refusal};
 

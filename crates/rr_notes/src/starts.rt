@@ -18,11 +18,11 @@ use std::alloc::{AllocError, Global};
 /// What a start that is a moment states of its zone.
 #[derive(Drop)]
 pub(crate) enum StartZone {
-    /// That it is in UTC.
+    /// It states that it is in UTC.
     Utc,
-    /// The name of its zone.
+    /// It states the name of its zone.
     Named(Bytes),
-    /// Neither: local time of each observer.
+    /// It states neither: local time of each observer.
     Floating,
 }
 
@@ -154,8 +154,8 @@ pub fn note_on_starts(alloc: Global, a: &[u8], b: &[u8]) -> Result<Option<String
     Ok(Some(visible(alloc, text.as_bytes())?))
 }
 
-/// The same of two files, which are read once more, up to one byte more than the limit. Nothing is noted if one of them is standard
-/// input, a pipe or a device, which can be read once.
+/// That local times of two files are compared, as `note_on_starts` says of their texts. The files are read again, as by
+/// `bytes_again`. Nothing is noted if one of them is standard input, a pipe or a device, which can be read once.
 pub fn note_on_starts_of_files(
     rt: &HostRuntime,
     name_a: &str,

@@ -27,7 +27,7 @@ fn text_on_zone(
     }
 }
 
-/// Why a zone of a file turns nothing.
+/// Why a zone of a file turns no moment, as a sentence for standard error with the names of both.
 pub fn note_on_zone(alloc: Global, file: &str, zone: &UnreadZone) -> Result<String, AllocError>
     ensures { IsVisibleNote result }
 {
@@ -50,8 +50,8 @@ fn note_on_zones(alloc: Global, file: &str, bytes: &[u8]) -> Result<Option<Strin
     }
 }
 
-/// Why a zone that an event of a file needs turns nothing, if there is one: the first of them. The file is read once more, up to one byte
-/// more than the limit. Nothing is noted of standard input, a pipe or a device, which can be read once.
+/// Why a zone that an event of a file needs turns nothing, if there is one: the first of them. The file is read again,
+/// as by `bytes_again`. Nothing is noted of standard input, a pipe or a device, which can be read once.
 pub fn note_on_zones_of_file(rt: &HostRuntime, name: &str, limit: usize) -> Option<String>
     requires { limit < 2 ^ 62 }
     ensures { IsVisibleIfSome result }

@@ -28,7 +28,7 @@ meaning_in zones name = meaning_of (zone_named zones name)
 abbrev pub is_zone : Section → Bool
 is_zone section = section.is_component && not (is_event (begun_name section.lines))
 
--- the VTIMEZONEs among the sections of a text; none where its components are at fault
+-- the VTIMEZONEs among the sections of a text; none if its components are at fault
 abbrev pub zones_of_sections : Sections → List (List RawLine)
 zones_of_sections (Ok sections) = zones_in (map part_of sections)
 zones_of_sections (Err refusal) = []

@@ -11,7 +11,7 @@ ghost use Rattle.rr_zone.specs.Offsets.{IsBelowDay};
 use rr_model::{End, Kind, Rule, day_part};
 use rr_zone::Observance;
 
-// 0001-01-01T00:00:00.
+// 0001-01-01T00:00:00, in seconds since 1970-01-01T00:00:00.
 const FIRST_MOMENT: i64 = -62_135_596_800;
 
 // 400 years, in seconds.
@@ -49,7 +49,7 @@ fn after_date(past: i64, from: i32, at: i64) -> i64
     }
 }
 
-// The same after all of some dates.
+// A moment of UTC after all of some dates of local time, and not before `past`.
 fn after_dates(past: i64, from: i32, dates: &[i64]) -> i64
     requires past { IsPastMoment past }
     requires from { IsBelowDay from }
@@ -64,7 +64,7 @@ fn after_dates(past: i64, from: i32, dates: &[i64]) -> i64
     last
 }
 
-// The same after the end of a rule.
+// A moment of UTC after the UNTIL of a rule, if it has one, and not before `past`.
 fn after_end(past: i64, from: i32, end: End) -> i64
     requires past { IsPastMoment past }
     requires from { IsBelowDay from }
@@ -80,7 +80,7 @@ fn after_end(past: i64, from: i32, end: End) -> i64
     }
 }
 
-// The same after the ends of all of some rules.
+// A moment of UTC after the UNTIL of each of some rules, and not before `past`.
 fn after_rules(past: i64, from: i32, rules: &[Rule]) -> i64
     requires past { IsPastMoment past }
     requires from { IsBelowDay from }
@@ -95,7 +95,7 @@ fn after_rules(past: i64, from: i32, rules: &[Rule]) -> i64
     last
 }
 
-// The same after all that an observance states but for its endless rules.
+// A moment of UTC after all that an observance states but for its endless rules, and not before `past`.
 fn after_observance(past: i64, observance: &Observance) -> i64
     requires past { IsPastMoment past }
     requires sound { IsSoundObservance observance.now }

@@ -6,7 +6,7 @@ ghost use Rattle.rr_offsets.specs.Steady.{is_early, is_steady, is_steady_end, is
 use rr_model::{End, Freq, Rule};
 use rr_zone::Observance;
 
-// 3000-01-01T00:00:00.
+// 3000-01-01T00:00:00, in seconds since 1970-01-01T00:00:00.
 const YEAR_3000: i64 = 32_503_680_000;
 
 // Whether a moment lies before the year 3000.

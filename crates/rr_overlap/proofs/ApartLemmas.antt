@@ -10,7 +10,7 @@ module _ (s : Sketch) where
   pub last_here : (t : ℤ) → BeginsAt s t → IsLastBefore s (t +ℤ pos 1) (Some t)
   last_here t b = (b, omega (arith, ints), λ x h l. omega (arith, ints))
 
-  -- where nothing begins the last beginning stays
+  -- if nothing begins the last beginning stays
   pub last_kept : (z y : ℤ) (last : Option ℤ) → IsLastBefore s z last → z ≤ℤ y → NoneBetween s z y → IsLastBefore s y last
   last_kept z y None h l none = λ x b m. by_lt_z {P = ⊥} x z (λ c. h x b c) (λ c. none x b c m)
   last_kept z y (Some t) h l none =
@@ -21,7 +21,7 @@ module _ (s : Sketch) where
       )
 
 module _ (s : Sketch) (d : ℕ) (u : Sketch) (e : ℕ) where
-  -- where nothing begins no two meet
+  -- if nothing begins no two meet
   pub apart_kept : (z y : ℤ) → AreApartBefore s d u e z → NoneBetween s z y → NoneBetween u z y → AreApartBefore s d u e y
   apart_kept z y apart ns nu x w bx bw lx lw =
       by_lt_z {P = Meet d e x w → ⊥} x z

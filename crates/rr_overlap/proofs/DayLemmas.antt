@@ -136,7 +136,7 @@ module _ (s : Sketch) (d : ℕ) (u : Sketch) (e : ℕ) (day z : ℤ) (rest_a res
     second_runs = rw meets.here meets.second_runs;
   }
 
-  -- where nothing meets the walk goes on after it
+  -- if nothing meets the walk goes on after it
   pub one_further : 1 ≤ d → 1 ≤ e → (StillRuns new.first d at → StillRuns new.second e at → ⊥) → IsAt s d u e day (at +ℤ pos 1) xs ys new
   one_further hd he none =
       let few = fits.0 in
@@ -190,7 +190,7 @@ at_end s d u e day z rest_a rest_b last here ea eb =
 
 -- ---- days as the code has them
 
--- a walk begins where nothing began before
+-- a walk begins if nothing began before
 pub walk_begins : (s : Sketch) (d : ℕ) (u : Sketch) (e : ℕ) (from day : ℤ) → day ≡ from → IsLastBefore s (midnight from) None
     → IsLastBefore u (midnight from) None
     → IsWalked s d u e (midnight day) (record { first = None; second = None })

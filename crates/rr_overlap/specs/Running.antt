@@ -35,7 +35,7 @@ pub record IsFirstClash (P : Occurrences) (duration : ℕ) (Q : Occurrences) (ot
   pub of_first : IsLastBegun P second k at_first
   pub of_second : IsLastBegun Q second l at_second
 
--- Yes where no second is shared; no with the first clash, its occurrences in the kinds of their sets.
+-- Yes if no second is shared; no with the first clash, its occurrences in the kinds of their sets.
 abbrev pub IsClashVerdict : Occurrences → ℕ → Occurrences → ℕ → Kind → Kind → Clash → Type 0
 IsClashVerdict P duration Q other k l Yes = (x : ℤ) → IsShared P duration Q other x → ⊥
 IsClashVerdict P duration Q other k l (No x t u) = IsFirstClash P duration Q other k l x t u

@@ -30,8 +30,8 @@ pub enum Clash {
     },
 }
 
-/// Whether two sets of occurrences never run at the same time, where each occurrence of the first lasts `duration_a` seconds and
-/// each of the second `duration_b`; else the first second in which they do, with the last occurrence of each that does not begin
+/// Whether two sets of occurrences never run at the same time, if each occurrence of the first lasts `duration_a` seconds and
+/// each of the second `duration_b`; otherwise the first second in which they do, with the last occurrence of each that does not begin
 /// after it. A date runs from its midnight, and the second at which an occurrence ends is free.
 ///
 /// A duration is 1 to 31,622,400 seconds, which are 366 days, and the least common multiple of the periods must be at most
@@ -65,7 +65,7 @@ pub fn clear<A: DaySeq, B: DaySeq>(a: &A, duration_a: u32, b: &B, duration_b: u3
     }
 }
 
-// The first occupied day of two sets; None where one of them is empty.
+// The first occupied day of two sets; None if one of them is empty.
 fn first_day<A: DaySeq, B: DaySeq>(a: &A, b: &B) -> Option<i64>
     ensures none { IfNone result (IsEmptySketch (A.sketch a.now) ⊎ IsEmptySketch (B.sketch b.now)) }
     ensures first_of_a { IfSome result (λ d. IsLastBefore (A.sketch a.now) (midnight d) None) }

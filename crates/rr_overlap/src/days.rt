@@ -16,7 +16,7 @@ use rr_word::{DaySeq, PairMemo, next_second, seconds};
 pub enum DayEnd {
     /// The first second in which occurrences of both run.
     Meets(Meeting),
-    /// None, and what began last.
+    /// In no second of it both run, and this is what has begun last.
     Clear(LastBegun),
 }
 
@@ -76,7 +76,7 @@ fn is_quiet(
 
 /// What a day shows of two sequences.
 ///
-/// Its seconds are walked where the pair of its time sets is not remembered, or what began before still runs.
+/// Its seconds are walked if the pair of its time sets is not remembered, or what began before still runs.
 fn walk_day<A: DaySeq, B: DaySeq>(
     a: &A,
     b: &B,
@@ -123,9 +123,9 @@ fn walk_day<A: DaySeq, B: DaySeq>(
     end
 }
 
-/// The first second of the `days` days from a day on in which occurrences of both run; None where there is none.
+/// The first second of the `days` days from a day on in which occurrences of both run; None if there is none.
 ///
-/// Days are numbered from 1970-01-01. It reads each day once. The seconds of a day are walked where the pair of its time sets is not one of those that were
+/// Days are numbered from 1970-01-01. It reads each day once. The seconds of a day are walked if the pair of its time sets is not one of those that were
 /// remembered; otherwise its first and last seconds are enough. It takes no memory.
 pub fn first_meeting<A: DaySeq, B: DaySeq>(
     a: &A,

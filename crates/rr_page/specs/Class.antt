@@ -65,7 +65,7 @@ even_count lines = count_by (λ (line : ReportLine). is_even line) lines
 
 -- ---- the first lines of a class
 
--- a line is shown if it is of the class, and not as many are shown already as there may be; so many more may be
+-- a line is shown if it is of the class, and `left` more may be shown, at least one
 abbrev pub is_shown : Class → ℕ → ReportLine → Bool
 is_shown c left line = nat_lt 0 left && is_of c line
 

@@ -76,7 +76,7 @@ series_html a b =
     if is_none a && is_none b then []
     else piece_text (Event event.SeriesStart) ++ side_html event.SeriesA a ++ side_html event.SeriesB b ++ piece_text (Event event.SeriesEnd)
 
--- where their local times differ
+-- where the local times of the two files differ
 unfoldable pub difference_html : Option Difference → List ℕ
 difference_html None = []
 difference_html (Some difference) = months_html difference.months.items ++ times_html difference.times.items

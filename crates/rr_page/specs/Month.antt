@@ -30,17 +30,17 @@ sign_piece sign =
     if sign == 61 then month.SignSame else (if sign == 120 then month.SignOther
     else (if sign == 65 then month.SignA else (if sign == 66 then month.SignB else month.SignNone)))
 
--- a day that is so many days after the first of its month begins a row if it is a Monday, but not if it is the first
+-- a day that is n days after the first of its month begins a row if it is a Monday, but not if it is the first
 abbrev pub begins_row : ℕ → ℕ → Bool
 begins_row weekday n = nat_lt 0 n && ((weekday + n) % 7 == 0)
 
--- the day that is so many days after the first of its month, which lies on this weekday, with its sign
+-- the day that is n days after the first of its month, which lies on this weekday, with its sign
 abbrev pub cell_html : ℕ → ℕ → ℕ → List ℕ
 cell_html weekday n sign =
     (if begins_row weekday n then piece_text (Month month.WeekEnd) else []) ++ piece_text (Month (cell_piece sign)) ++ number_html (n + 1)
     ++ piece_text (Month (sign_piece sign))
 
--- days in a row with these signs, from the one that is so many days after the first
+-- days in a row with these signs, from the one that is n days after the first
 abbrev pub cells_html : ℕ → ℕ → List ℕ → List ℕ
 cells_html weekday n [] = []
 cells_html weekday n (sign ∷ signs) = cell_html weekday n sign ++ cells_html weekday (n + 1) signs

@@ -34,12 +34,12 @@ pub record IsEvent (a b : List ℕ → Stated) (line : ReportLine) (text : List 
   pub is_detail : IsDetail a b line detail
   pub is : text ≡ event_html line detail
 
--- the same if the line is shown, otherwise the text is empty
+-- the events of a line if it is shown, otherwise the text is empty
 abbrev pub IsEventIf : (List ℕ → Stated) → (List ℕ → Stated) → Bool → ReportLine → List ℕ → Type 0
 IsEventIf a b true line text = IsEvent a b line text
 IsEventIf a b false line text = text ≡ []
 
--- the events to look at of these lines, so many at most, one after another
+-- the events to look at of these lines, `left` at most, one after another
 pub data AreEvents (a b : List ℕ → Stated) : ℕ → List ReportLine → List ℕ → Type 0 where
   end : (left : ℕ) → AreEvents a b left [] []
   line : (left : ℕ) (line : ReportLine) (lines : List ReportLine) (text rest : List ℕ) → IsEventIf a b (is_shown class.Look left line) line text

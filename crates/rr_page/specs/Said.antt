@@ -56,7 +56,7 @@ further_html (Until count last) =
 further_html Many = piece_text (Sentence sentence.MoreMany)
 further_html ForEver = piece_text (Sentence sentence.MoreForEver)
 
--- the same of local times that differ
+-- how many further differences there are and until when, if local times differ
 abbrev pub more_html : Option Difference → List ℕ
 more_html None = []
 more_html (Some difference) = further_html difference.further

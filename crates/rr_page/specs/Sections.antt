@@ -65,11 +65,11 @@ undecided_html line =
     piece_text (Event event.EventNone) ++ name_html line ++ why_html line.said ++ piece_text (Event event.SaidEnd) ++ help_html line.said
     ++ piece_text (Event event.EventEnd)
 
--- those of a line, if it is of them and so many more may be shown
+-- the events of a line that can't be compared, if it has some and `left` more may be shown
 abbrev pub undecided_if : ℕ → ReportLine → List ℕ
 undecided_if left line = if is_shown class.Undecided left line then undecided_html line else []
 
--- those of lines, so many at most
+-- the events of lines that can't be compared, `left` at most
 abbrev pub each_undecided_html : ℕ → List ReportLine → List ℕ
 each_undecided_html left [] = []
 each_undecided_html left (line ∷ lines) = undecided_if left line ++ each_undecided_html (left_behind class.Undecided left line) lines
@@ -89,7 +89,7 @@ item_html line =
     piece_text (Section section.ItemStart) ++ title_html line.title ++ piece_text (Section section.ItemKey) ++ key_html line.key
     ++ piece_text (Section section.ItemEnd)
 
--- the same if it is of a class
+-- an event in a list, if its line is of a class
 abbrev pub item_if : Class → ReportLine → List ℕ
 item_if c line = if is_of c line then item_html line else []
 

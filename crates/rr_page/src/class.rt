@@ -17,7 +17,7 @@ pub(crate) enum Class {
     Undecided,
     // One file alone has them, and nothing occurs in them.
     Cancelled,
-    // They have the same occurrences.
+    // The files have the same occurrences of them.
     Equal,
 }
 
@@ -106,7 +106,7 @@ pub(crate) fn even_count(lines: &[ReportLine]) -> usize
     lines.iter().filter(|line| is_even(line)).count()
 }
 
-// Whether a line is shown, if so many more of its class may be.
+// Whether a line is shown, if `left` more of its class may be.
 pub(crate) fn is_shown(class: Class, left: usize, line: &ReportLine) -> bool
     ensures { result ≡ is_shown class left line.now }
 {

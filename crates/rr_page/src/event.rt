@@ -74,7 +74,7 @@ fn start_piece(said: Said) -> EventPiece
 
 // ---- what the files state of them
 
-// A series in words.
+// Puts a series in words, escaped.
 fn put_words(alloc: Global, page: &mut Markup, series: &Series) -> Result<(), NoMemory>
     requires { IsValidSeries series.now }
     ensures { OnOk result (page.new ≡ page.old ++ html_text (series_words series.now)) }

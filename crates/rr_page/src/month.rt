@@ -43,7 +43,7 @@ fn cell_piece(sign: u8) -> MonthPiece
     }
 }
 
-// Its end.
+// The end of the cell of a day, by its sign.
 fn sign_piece(sign: u8) -> MonthPiece
     ensures { result ≡ sign_piece sign }
 {
@@ -56,7 +56,7 @@ fn sign_piece(sign: u8) -> MonthPiece
     }
 }
 
-// Whether a day that is so many days after the first of its month begins a row: a Monday does, but not the first.
+// Whether a day that is `days` days after the first of its month begins a row: a Monday does, but not the first.
 fn begins_row(weekday: u8, days: u64) -> bool
     requires weekday { weekday < 7 }
     requires days { days < 2 ^ 63 }
@@ -65,7 +65,7 @@ fn begins_row(weekday: u8, days: u64) -> bool
     days > 0 && (u64::from(weekday) + days) % 7 == 0
 }
 
-// The day that is so many days after the first of its month.
+// Puts the day that is `days` days after the first of its month.
 fn put_cell(
     alloc: Global,
     page: &mut Markup,

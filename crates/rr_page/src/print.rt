@@ -36,7 +36,7 @@ fn put_line<A: EventFile, B: EventFile>(
     put_event(alloc, page, line, &detail)
 }
 
-// Those of a line, if it is of them and so many more may be shown.
+// Puts the events of a line that are to be looked at, if it has some and `left` more may be shown.
 fn put_line_if<A: EventFile, B: EventFile>(
     alloc: Global,
     page: &mut Markup,
@@ -55,7 +55,7 @@ fn put_line_if<A: EventFile, B: EventFile>(
     Ok(())
 }
 
-// Those of lines, `MOST_EVENTS` at most.
+// Puts the events to look at of lines, `MOST_EVENTS` at most.
 fn put_lines<A: EventFile, B: EventFile>(
     alloc: Global,
     page: &mut Markup,

@@ -92,7 +92,7 @@ pub(crate) fn put_title(
     }
 }
 
-// One of two pieces, by the side.
+// The piece for the side: the second for B, otherwise the first.
 pub(crate) fn by_side(side: Side, a: Piece, b: Piece) -> Piece
     ensures { result ≡ by_side side a b }
 {

@@ -122,7 +122,7 @@ fn put_further(alloc: Global, page: &mut Markup, further: Further) -> Result<(),
     }
 }
 
-// The same of local times, if they differ.
+// Puts how many further differences there are and until when, if local times differ.
 fn put_more(
     alloc: Global,
     page: &mut Markup,

@@ -99,7 +99,7 @@ fn put_undecided(alloc: Global, page: &mut Markup, line: &ReportLine) -> Result<
     page.piece(Piece::Event(EventPiece::EventEnd))
 }
 
-// Those of a line, if it is of them and so many more may be shown.
+// Puts the events of a line that can't be compared, if it has some and `left` more may be shown.
 fn put_undecided_if(
     alloc: Global,
     page: &mut Markup,
@@ -114,7 +114,7 @@ fn put_undecided_if(
     Ok(())
 }
 
-// Those of lines, `MOST_EVENTS` at most.
+// Puts the events of lines that can't be compared, `MOST_EVENTS` at most.
 fn put_each_undecided(
     alloc: Global,
     page: &mut Markup,
@@ -165,7 +165,7 @@ fn put_item(alloc: Global, page: &mut Markup, line: &ReportLine) -> Result<(), N
     page.piece(Piece::Section(SectionPiece::ItemEnd))
 }
 
-// The same if it is of a class.
+// Puts a line as an item of a list, if it is of a class.
 fn put_item_if(
     alloc: Global,
     page: &mut Markup,

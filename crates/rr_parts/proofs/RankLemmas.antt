@@ -8,7 +8,7 @@ use Rattle.rr_model.specs.Rule.Candidate.{has_weekday_of, rank_from_front, rank_
 use Rattle.rr_model.proofs.WholeLemmas.{floor_whole, floor_mod_below}
 use Rattle.rr_model.proofs.CountLemmas.{one, count_from-zero, count_from-suc, count_from-first}
 
--- two days have one weekday where whole weeks lie between them
+-- two days have one weekday if whole weeks lie between them
 pub has_weekday_of-weeks : (d e : ℤ) → has_weekday_of d e ≡ (nat_abs (e -ℤ d) % 7 == 0)
 unfolding weekday_of
 has_weekday_of-weeks d e =
@@ -21,7 +21,7 @@ has_weekday_of-weeks d e =
       | inr other ↦ ne_eqb (weekday_of e) (weekday_of d) other ∙ sym (ne_eqb (nat_abs (e -ℤ d) % 7) 0 (λ z. other (omega (arith, ints, a, b, x, y))))
     ]
 
--- one more where whole weeks are over
+-- one more if whole weeks are over
 next_week : (n : ℕ) → (n + 6) / 7 + one (n % 7 == 0) ≡ (suc n + 6) / 7
 next_week n =
     elim (cases_eq (n % 7) 0) [

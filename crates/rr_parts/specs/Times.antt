@@ -5,7 +5,7 @@ use Rattle.rr_model.specs.declared.rule.Rule.{Rule}
 use Rattle.rr_parts.specs.Numbers.{number_allowed}
 use Rattle.rr_parts.specs.declared.times.Time.{Time}
 
--- each time part, filled from the start's own time where it is absent and wanted, allows the time
+-- each time part, filled from the start's own time if it is absent and wanted, allows the time
 abbrev pub time_allowed : Rule → Time → Time → Bool
 time_allowed rule own time =
     number_allowed (wants_hour rule.freq) rule.by_hour own.hour time.hour && number_allowed (wants_minute rule.freq) rule.by_minute own.minute time.minute

@@ -64,7 +64,7 @@ fn by_month_day_holds(rule: &Rule, start: &Day, day: &Day) -> bool
     )
 }
 
-// Whether BYDAY lists the day's weekday, with its ordinal where that is asked.
+// Whether BYDAY lists the day's weekday, with its ordinal if that is asked.
 fn by_day_holds(rule: &Rule, start: &Day, day: &Day) -> bool
     ensures { result ≡ by_day_holds (filled_rule rule.now Days start.now.number) day.now.number }
 {
@@ -74,7 +74,7 @@ fn by_day_holds(rule: &Rule, start: &Day, day: &Day) -> bool
     lists_day(rule.by_day.as_slice(), counts_in_year(rule), day)
 }
 
-// Whether ordinals of BYDAY, where it is present, count in the year.
+// Whether ordinals of BYDAY, if it is present, count in the year.
 fn counts_in_year(rule: &Rule) -> bool
     ensures { result ≡ counts_in_year rule.now.freq rule.now.by_month }
 {

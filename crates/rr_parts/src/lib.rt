@@ -1,5 +1,5 @@
-//! What the parts of a rule say of one day, of one time and of one unit, where the start fills those that it lacks (RFC 5545,
-//! section 3.3.10).
+//! What the BY parts of a rule say of one day, of one time and of one unit, once the start has filled those that are
+//! absent and wanted (RFC 5545, section 3.3.10).
 #![tactic(auto)]
 
 mod dates;

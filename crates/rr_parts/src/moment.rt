@@ -20,7 +20,8 @@ pub struct Moment {
 }
 
 impl Moment {
-    /// The date or the moment of this number.
+    /// The date or the moment with its day in the calendar. The number is one of days since 1970-01-01, or of seconds
+    /// since its midnight.
     pub fn new(kind: Kind, at: i64) -> Self
         requires near { IsDayWithin 1000 (day_part kind at) }
         ensures kind { result.kind ≡ kind }

@@ -44,7 +44,7 @@ pub fn number_from_back(k: u16, many: u16) -> i16
     k as i16 - many as i16 - 1
 }
 
-/// As `allows`, where the part, absent and wanted, is filled with the start's own number.
+/// Whether a part lists `n`. If it is absent and wanted, it lists the start's own number alone.
 pub fn allows_filled(numbers: &Numbers, is_wanted: bool, own: u8, n: u8) -> bool
     ensures { result ≡ allows (filled_part is_wanted numbers.now (pos own)) (pos n) }
 {
@@ -55,7 +55,8 @@ pub fn allows_filled(numbers: &Numbers, is_wanted: bool, own: u8, n: u8) -> bool
     }
 }
 
-// As `allows_signed`, where the part, absent and wanted, is filled with the start's own number.
+// Whether a part lists place `n`, counted from the front or from the back. If it is absent and wanted, it lists the
+// start's own number alone.
 pub(crate) fn allows_place_filled(
     numbers: &Numbers,
     is_wanted: bool,

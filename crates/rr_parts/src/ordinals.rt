@@ -14,7 +14,7 @@ pub(crate) fn lists_day(items: &[DayItem], in_year: bool, day: &Day) -> bool
     items.iter().any(|item| day_item_holds(*item, in_year, day))
 }
 
-// Whether the day has the item's weekday, and the item's ordinal where it has one.
+// Whether the day has the item's weekday, and the item's ordinal if it has one.
 fn day_item_holds(item: DayItem, in_year: bool, day: &Day) -> bool
     ensures { result ≡ day_item_holds in_year day.now.number item }
 {

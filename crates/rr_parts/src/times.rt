@@ -10,11 +10,14 @@ use crate::moment::Moment;
 use crate::numbers::allows_filled;
 use rr_model::{Kind, Rule, second_part};
 
-/// A time of day.
+/// A time of day, as `time_of` gives it: hours below 24, minutes and seconds below 60.
 #[derive(Clone, Copy)]
 pub struct Time {
+    /// The hour of the day, from 0.
     pub hour: u8,
+    /// The minute of the hour, from 0.
     pub minute: u8,
+    /// The second of the minute, from 0.
     pub second: u8,
 }
 
@@ -31,7 +34,7 @@ pub fn time_parts_hold(rule: &Rule, start: &Moment, moment: &Moment) -> bool
     }
 }
 
-// Whether each time part, filled from the start's time where it is absent and wanted, lists the time's number.
+// Whether each time part, filled from the start's time if it is absent and wanted, lists the time's number.
 fn allows_time(rule: &Rule, own: Time, time: Time) -> bool
     ensures { result ≡ time_allowed rule.now own time }
 {

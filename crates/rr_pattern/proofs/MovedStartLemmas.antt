@@ -1,4 +1,4 @@
--- A Graph pattern keeps its days where the range's start is moved to the first of them.
+-- A Graph pattern keeps its days if the range's start is moved to the first of them.
 use Rattle.std.proofs.Common.{◌≡◌, ◌↔◌, Bool, false, ℤ, pos, nat_abs, ◌+ℤ◌, ◌-ℤ◌, ◌≤ℤ◌, ◌<ℤ◌, refl, sym, ap, ◌∙◌, arith, Some}
 use Rattle.std.proofs.lemmas.Int.{ints}
 use Rattle.rr_model.specs.Whole.Count.{count_from}

@@ -58,7 +58,7 @@ sum_has : (days w : ℕ) → w < 7 → list_any (λ item. item.weekday == w) (da
 sum_has days w l = any_mapped (λ (item : DayItem). item.weekday == w) (λ weekday. day_item (pos 0) weekday) (has_weekday days) all_weekdays
     ∙ any_weekday (has_weekday days) (λ x. x == w) w all_weekdays (λ x. refl) ∙ ap (λ b. b && has_weekday days w) (every_weekday w l)
 
--- BYDAY of a sum lists the day's weekday where the sum has it
+-- BYDAY of a sum lists the day's weekday if the sum has it
 pub any_in_sum : (in_year : Bool) (days : ℕ) (d : ℤ) → list_any (day_item_holds in_year d) (days_of_sum days) ≡ is_day_in days d
 any_in_sum in_year days d =
     let w = weekday_of d in

@@ -93,7 +93,7 @@ module _ (f : Freq) (interval : ℕ) (months ms : List ℤ) (ds : List DayItem) 
       ∙ guarded same_second (fits d) (date_parts_hold rule d) (by_set_pos_holds rule kind start t) false
       (λ s f. ap (λ b. b && by_set_pos_holds rule kind start t) e)
 
-  -- where the units of the days of a month are one, and its other days in that unit are no candidates
+  -- if the units of the days of a month are one, and its other days in that unit are no candidates
   module _ (keeps : (e : ℤ) → month_number e ≡ month_number d → unit_number f w Days e ≡ unit_number f w Days d)
       (outside : (e : ℤ) → unit_number f w Days e ≡ unit_number f w Days d → (month_number e ≡ month_number d → ⊥) → date_parts_hold rule e ≡ false) where
     inside_month : fits d ≡ true → (e : ℤ) → month_number e ≡ month_number d → day_holds rule sd e ≡ date_parts_hold rule e

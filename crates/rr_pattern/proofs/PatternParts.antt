@@ -75,7 +75,7 @@ RangeCounts end = ⊤
 abbrev pub IsCountedRange : Range → Type 0
 IsCountedRange range = IsInYears Days range.start_day × RangeCounts range.end
 
--- No first day is found exactly where the pattern and the range have no day in the years 1 to 9999.
+-- No first day is found exactly if the pattern and the range have no day in the years 1 to 9999.
 abbrev pub NoneIsNone : Type 0
 NoneIsNone =
     (pattern : Pattern) (range : Range) → IsCountedRange range
@@ -93,7 +93,7 @@ FoundIsFirst =
     (pattern : Pattern) (range : Range) (first : ℤ) → IsCountedRange range → first_repeat_day pattern range ≡ Some first
     → IsFirstDay pattern range first
 
--- t is a member of the only rule of the counterpart, or the start where there is no rule
+-- t is a member of the only rule of the counterpart, or the start if there is no rule
 abbrev pub OccursByRules : List Rule → Kind → ℤ → ℤ → Type 0
 OccursByRules [] kind start t = t ≡ start
 OccursByRules (rule ∷ rules) kind start t = IsMember rule kind start t

@@ -75,7 +75,7 @@ module _ (rule : Rule) (kind : Kind) (start t : ℤ) (r : IsDayRule rule) where
       ∙ ap (λ p. count_from p t (nat_abs (B -ℤ t))) same_test
       ∙ count_from_moment (day_holds rule sd) kind start t (begin_of (unit_of d +ℤ pos 1)) e in_unit.1
 
-  -- where only the days of the day's month are candidates of its unit, and there the days that pass q
+  -- if only the days of the day's month are candidates of its unit, and there the days that pass q
   module _ (q : ℤ → Bool)
       (keeps : (e : ℤ) → month_number e ≡ month_number d → unit_of e ≡ unit_of d)
       (inside : (e : ℤ) → month_number e ≡ month_number d → day_holds rule sd e ≡ q e)

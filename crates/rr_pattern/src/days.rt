@@ -35,7 +35,7 @@ fn period_of(pattern: &Pattern, day: &Day) -> i64
     }
 }
 
-/// The frequency whose units a type counts.
+/// The frequency of RFC 5545 whose units a type of pattern counts: days, weeks, months or years.
 pub fn form_freq(form: Form) -> Freq
     ensures { result ≡ form_freq form }
 {

@@ -8,7 +8,7 @@ use crate::days::is_pattern_day;
 use rr_cal::Day;
 use rr_model::{Pattern, Range, RangeEnd};
 
-// 9999-12-31.
+// 9999-12-31, in days since 1970-01-01.
 const LAST_DAY: i64 = 2_932_896;
 
 /// The first day of a pattern and a range in the years 1 to 9999, in days since 1970-01-01, if there is one.

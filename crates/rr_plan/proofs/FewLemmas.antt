@@ -159,7 +159,7 @@ holds_all_read s settled first period days moments valid at of none far holds =
     holds_all s (first +ℤ pos days) moments valid (subst (λ p. AreEmpty s s.settled p) of (subst (λ q. AreEmpty s q period) at none))
     (omega (arith, ints, at, far)) holds
 
--- what is found has one property where it has another
+-- what is found has one property if it has another
 pub if_found : {X E : Type 0} (P Q : X → Type 0) (found : Result (Option X) E) → ((x : X) → P x → Q x) → IfOk found (λ f. IfSome f P) → IfOk found (λ f. IfSome f Q)
 if_found P Q (Ok (Some x)) step h = step x h
 if_found P Q (Ok None) step h = tt

@@ -18,7 +18,7 @@ use Rattle.rr_plan.specs.Few.{AreMoreThan, HasLater, HoldsBefore}
 
 -- ---- a rising list is not longer than one that has all its items
 
--- an item that is not the one at a place stays where that one is removed
+-- an item that is not the one at a place stays if that one is removed
 stays : (ys : List ℤ) (i : ℕ) (x z : ℤ) → i < length ys → get_or ys i x ≡ x → (x ≡ z → ⊥) → Contains ys z → Contains (remove ys i) z
 stays ys i x z within is differ (k, low, e) =
     let fewer = length-remove ys i within in

@@ -5,7 +5,7 @@ use rr_model::{Dates, GraphEvent};
 /// cancelledOccurrences).
 #[derive(Drop)]
 pub struct Part {
-    /// The event.
+    /// The event, which repeats by a pattern.
     pub event: GraphEvent,
     /// The occurrences that are cancelled: day numbers or second numbers, as the event's kind is.
     pub cancelled: Dates,

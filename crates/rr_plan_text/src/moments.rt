@@ -25,7 +25,7 @@ fn moment_value(alloc: Global, kind: Kind, at: i64) -> Result<Value, NoMemory>
     Ok(Value::try_from_str(alloc, text)?)
 }
 
-// Dates or moments.
+// The JSON strings of dates or moments, in their order.
 fn moment_values(alloc: Global, kind: Kind, times: &[i64]) -> Result<Vec<Value>, NoMemory>
     requires { All (IsPrintableAt kind) times.now }
     ensures { IfOk result (λ values. items_view values.items ≡ moments_items kind times.now) }

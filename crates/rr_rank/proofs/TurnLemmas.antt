@@ -29,7 +29,7 @@ module _ (s : Sketch) (v : IsValidSketch s) where
   times_later day zero late = let e : day +ℤ pos (0 * s.period) ≡ day = omega (arith, ints) in ap (times_on s) e
   times_later day (suc n) late = turns (times_on s) s.settled s.period (repeats s v) (suc n) day (late (omega arith))
 
-  -- the occurrences before a day some periods later, where `before` days lie before the settled one
+  -- the occurrences before a day some periods later, if `before` days lie before the settled one
   pub count_later : (q : ℤ) (before k n : ℕ) → s.settled ≡ q +ℤ pos before → (1 ≤ n → before ≤ k)
       → count_on s q (k + n * s.period) ≡ count_on s q k + n * (count_on s q (before + s.period) - count_on s q before)
   count_later q before k zero is late = let e : k + 0 * s.period ≡ k = omega arith in ap (count_on s q) e ∙ omega arith

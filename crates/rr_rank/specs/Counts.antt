@@ -20,7 +20,7 @@ numbers_on s q (suc n) = numbers_on s q n ++ numbers_at s (q +ℤ pos n) (times_
 abbrev pub count_on : Sketch → ℤ → ℕ → ℕ
 count_on s q n = length (numbers_on s q n)
 
--- an entry for the day, where it has seconds
+-- an entry for the day, if it has seconds
 abbrev pub entry_if_some : ℤ → ℕ → List ℕ → List Entry
 entry_if_some day before [] = []
 entry_if_some day before (x ∷ xs) = record { day = day; before = before } ∷ []
@@ -61,7 +61,7 @@ begin_day s (Some first) = int_min first s.settled
 abbrev pub IsBeginDay : Sketch → ℤ → Type 0
 IsBeginDay s q = (first : Option ℤ) → IsFirstDay s first → q ≡ begin_day s first
 
--- the entries with one for a day, where it has occurrences
+-- the entries with one for a day, if it has occurrences
 abbrev pub with_day : List Entry → ℤ → ℕ → ℕ → List Entry
 with_day entries day before zero = entries
 with_day entries day before (suc n) = entries ++ record { day = day; before = before } ∷ []

@@ -5,14 +5,14 @@ use Rattle.rr_model.specs.Moment.{second_part}
 use Rattle.rr_model.specs.declared.kind.Kind.{Kind}
 use Rattle.rr_model.specs.declared.kind.Kind.TheVariants.{Days, Moments}
 
--- the n-th occurrence is the one of this number, `turns` periods later; where there are some, it comes from the settled day on
+-- the n-th occurrence is the one of this number, `turns` periods later; if there are some, it comes from the settled day on
 pub record IsTurnedCount (head total n number turns : ℕ) : Type 0 where
   pub some : 1 ≤ number
   pub most : number ≤ total
   pub is : n ≡ number + turns * (total - head)
   pub late : 1 ≤ turns → head < number
 
--- the day is `rest`, `turns` periods later; where there are some, `rest` comes from the settled day on
+-- the day is `rest`, `turns` periods later; if there are some, `rest` comes from the settled day on
 pub record IsTurnedDay (settled : ℤ) (period : ℕ) (day rest : ℤ) (turns : ℕ) : Type 0 where
   pub is : day ≡ rest +ℤ pos (turns * period)
   pub high : rest <ℤ (settled +ℤ pos period)

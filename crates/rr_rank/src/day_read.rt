@@ -24,11 +24,11 @@ pub struct Totals {
 /// A day with its seconds and how many occurrences come before it.
 #[derive(Clone, Copy)]
 pub struct DayRead<'a> {
-    /// The day number.
+    /// The day, in days since 1970-01-01.
     pub day: i64,
     /// How many occurrences come before it.
     pub before: u64,
-    /// Its seconds.
+    /// The seconds of the day that are occupied, rising; a date has 0 alone.
     pub seconds: &'a [u32],
 }
 
@@ -57,7 +57,7 @@ pub fn day_of_number<'a, A: DaySeq + Drop, L: Ledger>(
     }
 }
 
-/// A day before a period past the settled day, with how many occurrences come before it.
+/// A day before a period past the settled day, in days since 1970-01-01, with how many occurrences come before it.
 pub fn day_counted<'a, A: DaySeq + Drop, L: Ledger>(
     seq: &'a Counted<A, L>,
     sums: &Sums<L>,

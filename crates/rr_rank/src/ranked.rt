@@ -71,7 +71,7 @@ impl<'a, A: DaySeq + Drop, L: Ledger> Ranked<'a, A, L> {
         })
     }
 
-    /// The n-th occurrence, where the first one is number 1.
+    /// The n-th occurrence; the first one is number 1.
     ///
     /// The number is 1 to 1,125,899,906,842,624. It takes no memory.
     pub fn nth(&self, n: u64, steps: &mut Steps<L>) -> Nth

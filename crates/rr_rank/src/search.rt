@@ -27,7 +27,7 @@ impl Key {
     }
 }
 
-/// The first index whose entry does not come before what is sought, or the number of entries where there is none.
+/// The first index whose entry does not come before what is sought, or the number of entries if there is none.
 pub fn first_index<L: Ledger>(sums: &Sums<L>, key: Key, steps: &mut Steps<L>) -> u64
     requires some { 1 ≤ length sums.now }
     requires sorted { IsSortedBy key sums.now }

@@ -35,7 +35,7 @@ impl<L: Ledger> Model for Sums<L> {
 impl<L: Ledger> Sums<L> {
     ghost use Rattle.rr_rank.specs.declared.sums.Entry.{Entry};
 
-    /// No entries; it takes no memory.
+    /// A list without entries; it takes no memory.
     pub fn new(alloc: Global) -> Self
         ensures { result ≡ [] }
     {
@@ -52,7 +52,7 @@ impl<L: Ledger> Sums<L> {
         self.entries.len() as u64
     }
 
-    /// Puts an entry at the end; nothing changes where there is no memory for it.
+    /// Puts an entry at the end; nothing changes if there is no memory for it.
     pub fn put(&mut self, entry: Entry) -> Result<(), NoMemory>
         ensures ok { OnOk result (self.new ≡ self.old ++ entry ∷ []) }
         ensures err { OnErr result (self.new ≡ self.old) }

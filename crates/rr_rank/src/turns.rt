@@ -9,23 +9,23 @@ use rr_model::{Kind, MAX_DAY, second_part};
 /// The number of an occurrence before a period past the settled day, and how many periods later another comes.
 #[derive(Clone, Copy)]
 pub struct TurnedCount {
-    /// The number.
+    /// The number of the earlier occurrence, from 1.
     pub number: u64,
-    /// How many periods later.
+    /// How many periods after it the other comes.
     pub turns: u64,
 }
 
 /// A day before a period past the settled day, and how many periods later another comes.
 #[derive(Clone, Copy)]
 pub struct TurnedDay {
-    /// The day number.
+    /// The earlier day, in days since 1970-01-01.
     pub day: i64,
-    /// How many periods later.
+    /// How many periods after it the other comes.
     pub turns: u64,
 }
 
-/// The occurrence before a period past the settled day of which the n-th one is a repetition, where `head` occurrences come
-/// before the settled day and `total` before a period past it; None where there are fewer than n.
+/// The occurrence before a period past the settled day of which the n-th one is a repetition, if `head` occurrences come
+/// before the settled day and `total` before a period past it; None if there are fewer than n.
 pub fn turned_count(n: u64, head: u64, total: u64) -> Option<TurnedCount>
     requires some { 1 ≤ n }
     requires order { head ≤ total }
@@ -49,7 +49,8 @@ pub fn turned_count(n: u64, head: u64, total: u64) -> Option<TurnedCount>
     })
 }
 
-/// The day before a period past the settled day that a day repeats, and how many periods lie between them.
+/// The day before a period past the settled day that a day repeats, in days since 1970-01-01, and how many periods lie
+/// between them.
 pub fn turned_day(day: i64, settled: i64, period: u64) -> TurnedDay
     requires near { IsNearDay day }
     requires settled_near { IsNearDay settled }
@@ -67,7 +68,7 @@ pub fn turned_day(day: i64, settled: i64, period: u64) -> TurnedDay
     }
 }
 
-/// The day `turns` periods later, None where it is past `MAX_DAY`.
+/// The day `turns` periods later, in days since 1970-01-01; `None` if it is past `MAX_DAY`.
 pub fn day_later(day: i64, turns: u64, period: u64) -> Option<i64>
     requires low { earliest_near ≤ℤ day }
     requires high { day ≤ℤ pos 2_000_000_000 }
@@ -83,8 +84,8 @@ pub fn day_later(day: i64, turns: u64, period: u64) -> Option<i64>
 
 /// The second below which the occurrences of a set, on the moment's own day, are not after the moment.
 ///
-/// `own` is the kind of the set: 1 for dates, which begin at midnight; 0 for moments beside a date, which comes before them;
-/// else one more than the moment's second of the day.
+/// It is 1 for a set of dates, which begin at midnight; 0 for a set of moments beside a date, which comes before them;
+/// otherwise 1 more than the moment's second of the day.
 pub fn seconds_up_to(own: Kind, kind: Kind, at: i64) -> u32
     ensures { result ≡ seconds_up_to own kind at }
 {

@@ -33,7 +33,7 @@ use Rattle.rr_model.specs.declared.used.LineName.{LineName}
 use Rattle.rr_model.specs.declared.used.LineName.TheVariants.{Dtstart, Rrule, Rdate, Exdate, Exrule}
 use Rattle.rr_text.proofs.StepLemmas.{and_then_ok}
 
--- where the first ends well, the second ends alike
+-- if the first ends well, the second ends alike
 abbrev pub Gives : {A : Type 0} → Result A Refusal → Result A Refusal → Type 0
 Gives {A} r s = (x : A) → r ≡ Ok x → s ≡ Ok x
 

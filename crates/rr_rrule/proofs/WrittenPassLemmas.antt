@@ -53,7 +53,7 @@ module _ {X : Type 0} (step : X → UsedLine → Result X Refusal) where
       ∙ in_turn-append step x (used_from k ls) (used_from (number_behind k ls) ms)
       ∙ ap (λ (m : Result X Refusal). m >>= λ n. in_turn step n (used_from (number_behind k ls) ms)) h
 
-  -- a line for each of some things, where what is read of them so far is the state
+  -- a line for each of some things, if what is read of them so far is the state
   module _ {Y : Type 0} (line_of : Y → WrittenLine) (state : List Y → X) (Fits : List Y → List Y → Type 0) where
     -- the next one is read, and the others fit then
     abbrev pub GoesOn : Type 0

@@ -128,7 +128,7 @@ abbrev pub count_of : End → Option ℕ
 count_of (Count n) = Some n
 count_of end = None
 
--- a number that is left out where it is the usual one
+-- a number that is left out if it is the usual one
 abbrev unless_usual : ℕ → ℕ → Option ℕ
 unless_usual usual n = if n == usual then None else Some n
 

@@ -71,7 +71,8 @@ fn series_of(alloc: Global, event: ReadEvent<Rule>) -> Result<Series, NoMemory>
     })
 }
 
-/// The series that the used lines of one event state; see `read`, which refuses in the same order.
+/// The series that the used lines of one event state. The offset is local time less UTC in seconds; see `read`, which
+/// refuses in the same order.
 pub fn read_scan(alloc: Global, offset: Option<i32>, scan: &Scan) -> Result<Series, Fault>
     ensures { Answers (calendar_scan offset scan.now) result }
 {
@@ -99,7 +100,7 @@ fn read_text(alloc: Global, offset: Option<i32>, text: &[u8]) -> Result<Series, 
 /// `TooManyParts`, `PeriodValue` in RDATE, `BadMoment`; of RRULE and EXRULE `TooManyParts`, then the faults of its parts,
 /// then those of its parts together. At the end of the text `BadLine` for an open component, `NoStart`.
 /// Then line by line beside the start, of each date `MixedKinds`, of each date and UNTIL `UtcMoment` without an offset,
-/// `BadMoment` where the offset leaves the years 1 to 9999, and of a rule finer than DAILY beside a date `NotAllowed`.
+/// `BadMoment` if the offset leaves the years 1 to 9999, and of a rule finer than DAILY beside a date `NotAllowed`.
 /// A refusal names the first physical line of the line at fault.
 #[tactic(auto, unfolding(rr_model::specs::Text::Calendars::reads_calendar))]
 pub fn read(alloc: Global, bytes: &[u8], offset: Option<i32>) -> Result<Series, Fault>

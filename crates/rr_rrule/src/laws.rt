@@ -23,7 +23,7 @@ pub fn order_does_not_matter()
     ensures { OrderDoesNotMatter }
 {}
 
-/// The text that is written for a valid series is read back as that series, where its start counts and none of its rules
+/// The text that is written for a valid series is read back as that series, if its start counts and none of its rules
 /// has both UNTIL and COUNT, which RFC 5545 does not allow together.
 pub fn calendar_is_read_back()
     ensures { CalendarIsReadBack }

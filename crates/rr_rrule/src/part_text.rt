@@ -35,7 +35,7 @@ fn push_name(line: &mut Vec<u8>, name: &[u8]) -> Result<(), NoMemory>
     Ok(())
 }
 
-// UNTIL or COUNT.
+// Appends UNTIL or COUNT, with the semicolon before it; nothing if the rule has no end.
 pub(crate) fn push_end(line: &mut Vec<u8>, end: End) -> Result<(), NoMemory>
     requires years { EndsInYears end }
     requires one { IsOneEnd end }
@@ -109,7 +109,7 @@ pub(crate) fn push_number_part(
     push_numbers(line, *first, others)
 }
 
-// A value of BYDAY.
+// Appends a value of BYDAY, its ordinal first if it has one.
 fn push_day_item(line: &mut Vec<u8>, item: DayItem) -> Result<(), NoMemory>
     ensures { OnOk result (Appends line.old line.new (day_item_text item)) }
 {

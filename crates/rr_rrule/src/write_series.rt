@@ -60,7 +60,7 @@ fn dates_out(alloc: Global, series: &Series) -> Result<Dates, NoMemory>
 /// (RFC 2445, section 4.8.5.2), then RDATE and EXDATE rising.
 ///
 /// The series is valid, and no rule has both UNTIL and COUNT. Each of the dates has a line of its own, with `VALUE=DATE`
-/// where the series is one of dates; a start that does not count is among the EXDATE. A rule has its parts in this order:
+/// if the series is one of dates; a start that does not count is among the EXDATE. A rule has its parts in this order:
 /// FREQ, UNTIL or COUNT, INTERVAL unless it is 1, WKST unless it is MO, BYMONTH, BYWEEKNO, BYYEARDAY, BYMONTHDAY, BYDAY,
 /// BYHOUR, BYMINUTE, BYSECOND, BYSETPOS. Lines end with CR LF; one of more than 75 bytes is folded (section 3.1).
 pub fn write(alloc: Global, series: &Series) -> Result<Vec<u8>, NoMemory>

@@ -24,7 +24,7 @@ pub enum FileRefusal {
     /// A BEGIN or END on this line has no value, an END does not close the innermost open component, or the text ends within
     /// a component (then the line is the text's last).
     BadLine(u64),
-    /// It is no JSON.
+    /// Microsoft Graph: it is no JSON in UTF-8.
     BadJson,
     /// It is one page of a list of Microsoft Graph, and more pages follow it.
     MorePages,
@@ -35,9 +35,9 @@ pub enum FileRefusal {
 /// What a call that reads a file answers in place of a value.
 #[derive(Clone, Copy, Debug, PartialEq, Eq)]
 pub enum FileFault {
-    /// The file is refused.
+    /// The file is refused, and this is why.
     Refused(FileRefusal),
-    /// Out of memory.
+    /// Out of memory; nothing is known of the file.
     NoMemory,
 }
 
@@ -55,9 +55,9 @@ impl From<NoMemory> for FileFault {
 /// What the events of a key state in one calendar.
 #[derive(Drop)]
 pub struct KeySeries {
-    /// Their series, with its instances as dates.
+    /// The series of the events, with its instances as dates.
     pub series: Series,
-    /// The names of their zones, empty where local time has none.
+    /// The names of their zones, empty if local time has none.
     pub zones: Vec<Bytes>,
     /// The place that a refusal by a limit is reported at.
     pub place: u64,

@@ -29,7 +29,7 @@ pub fn compare_keys(a: &Key, b: &Key) -> Ordering
     }
 }
 
-/// The same key, in memory of its own.
+/// A copy of a key, in memory of its own.
 pub fn copy_key(alloc: Global, key: &Key) -> Result<Key, NoMemory>
     ensures { IfOk result (λ made. made ≡ key.now) }
 {

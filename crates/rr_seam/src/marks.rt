@@ -15,7 +15,7 @@ pub struct Marks {
 }
 
 impl Marks {
-    /// Of what is read as it stands.
+    /// The marks of what is read as it stands: none.
     pub fn none() -> Marks
         ensures { result ≡ no_marks }
     {
@@ -26,7 +26,7 @@ impl Marks {
         }
     }
 
-    /// Those of either.
+    /// The marks that either of both has.
     pub fn or(self, other: Marks) -> Marks
         ensures { result ≡ marks_of_both self other }
     {

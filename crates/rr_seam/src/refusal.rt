@@ -11,9 +11,9 @@ use std::alloc::AllocFailed;
 pub enum KeyRefusal {
     /// By the reader or by a limit, with the place of the event.
     Event {
-        /// The refusal.
+        /// Why the reader or the limit refuses it.
         refusal: Refusal,
-        /// The place.
+        /// Which event of the file it is.
         place: u64,
     },
     /// A RECURRENCE-ID on this line has a RANGE parameter.
@@ -37,9 +37,9 @@ pub enum KeyRefusal {
 /// What a call that judges the events of a key answers in place of a value.
 #[derive(Clone, Copy, Debug, PartialEq, Eq)]
 pub enum KeyFault {
-    /// The events are refused.
+    /// The events are refused, and this is why.
     Refused(KeyRefusal),
-    /// Out of memory.
+    /// Out of memory; nothing is known of the events.
     NoMemory,
 }
 

@@ -12,11 +12,11 @@ pub const MAX_WORDS: usize = 1_000;
 /// In what language a file of events is written.
 #[derive(Clone, Copy, Debug, PartialEq, Eq)]
 pub enum Language {
-    /// iCalendar (RFC 5545).
+    /// iCalendar, a text of RFC 5545.
     Ics,
-    /// A list of events of Microsoft Graph.
+    /// A list of events of Microsoft Graph, in JSON.
     Graph,
-    /// vCalendar 1.0.
+    /// vCalendar 1.0, the text that came before iCalendar.
     Vcal,
 }
 
@@ -35,14 +35,14 @@ impl Model for EventWords {
 }
 
 impl EventWords {
-    /// These lines.
+    /// The words of an event with these lines, which are unfolded.
     pub fn of(lines: Vec<Bytes>) -> EventWords
         ensures { result ≡ lines.items }
     {
         EventWords { lines }
     }
 
-    /// The lines, in the order of the file.
+    /// The lines, unfolded, in the order of the file.
     pub fn lines(&self) -> &[Bytes]
         ensures { result.now ≡ self.now }
     {
@@ -66,7 +66,7 @@ impl Model for KeyWords {
 }
 
 impl KeyWords {
-    /// The lines of these events in a language.
+    /// The words of a key whose events have these words, in this language.
     pub fn of(language: Language, events: Vec<EventWords>) -> KeyWords
         ensures { result ≡ record { language = language; events = events.items } }
     {

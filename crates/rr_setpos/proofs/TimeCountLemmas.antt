@@ -11,7 +11,7 @@ use Rattle.rr_parts.specs.Numbers.{number_allowed}
 use Rattle.rr_setpos.specs.Ranks.{times_before, hour_second_allowed, day_second_allowed}
 use Rattle.rr_setpos.proofs.ProductLemmas.{count_turns}
 
--- where all pass
+-- if all pass
 below_all : (f : ℕ → Bool) (n : ℕ) → ((k : ℕ) → f k ≡ true) → count_seconds f n ≡ n
 below_all f zero all = count_seconds-zero f
 below_all f (suc n) all = count_seconds-suc f n ∙ rw (all n, below_all f n all) (omega arith)

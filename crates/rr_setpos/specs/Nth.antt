@@ -10,7 +10,7 @@ use Rattle.rr_model.specs.declared.rule.Rule.{Rule}
 abbrev pub IsPositionOf : ℤ → ℕ → ℕ → Type 0
 IsPositionOf position size rank = (position ≡ pos (rank + 1)) ⊎ (position ≡ neg_ℤ (pos (size - rank)))
 
--- the rank of a position among n, None where there is none
+-- the rank of a position among n, None if there is none
 abbrev pub IsRankOf : ℤ → ℕ → Option ℕ → Type 0
 IsRankOf position size None = (rank : ℕ) → rank < size → IsPositionOf position size rank → ⊥
 IsRankOf position size (Some rank) = (rank < size) × IsPositionOf position size rank
@@ -19,7 +19,7 @@ IsRankOf position size (Some rank) = (rank < size) × IsPositionOf position size
 abbrev pub HasPosition : Rule → Kind → ℤ → ℤ → ℤ → Type 0
 HasPosition rule kind start t position = (position ≡ pos (position_from_front rule kind start t)) ⊎ (position ≡ neg_ℤ (pos (position_from_back rule kind start t)))
 
--- the candidate of the unit at the position, None exactly where there is none
+-- the candidate of the unit at the position, None exactly if there is none
 abbrev pub IsNthOfUnit : Rule → Kind → ℤ → ℤ → ℤ → Option ℤ → Type 0
 IsNthOfUnit rule kind start unit position None = (t : ℤ) → unit_number rule.freq rule.week_start kind t ≡ unit → is_candidate rule kind start t ≡ true
     → HasPosition rule kind start t position → ⊥

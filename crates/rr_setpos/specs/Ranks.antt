@@ -52,7 +52,7 @@ rank_in_unit rule kind start t = count_from (is_candidate rule kind start) (unit
 abbrev pub size_of_unit : Rule → Kind → ℤ → ℤ → ℕ
 size_of_unit rule kind start t = count_from (is_candidate rule kind start) (unit_begin rule kind t) (nat_abs (unit_end rule kind t -ℤ unit_begin rule kind t))
 
--- the second of a day at which the unit of a second begins, where units are shorter than a day
+-- the second of a day at which the unit of a second begins, if units are shorter than a day
 abbrev pub begin_in_day : Rule → ℕ → ℕ
 begin_in_day rule second = second / unit_seconds rule.freq * unit_seconds rule.freq
 
@@ -114,7 +114,7 @@ PositionsAreByParts = (rule : Rule) (kind : Kind) (start t : ℤ) → IsTrue (ta
     → (position_from_front rule kind start t ≡ rank_by_parts rule kind start t + 1)
     × (position_from_back rule kind start t ≡ size_by_parts rule kind start t - rank_by_parts rule kind start t)
 
--- BYSETPOS holds of a candidate exactly where its position from the front or from the back, counted by days and times, is listed.
+-- BYSETPOS holds of a candidate exactly if its position from the front or from the back, counted by days and times, is listed.
 abbrev pub SetPositionsAreByParts : Type 0
 SetPositionsAreByParts = (rule : Rule) (kind : Kind) (start t : ℤ) → IsTrue (takes_start rule.freq kind) → is_candidate rule kind start t ≡ true
     → by_set_pos_holds rule kind start t ≡ set_positions_hold rule kind start t
@@ -130,7 +130,7 @@ day_second_allowed rule hour minute second s =
     number_allowed (wants_hour rule.freq) rule.by_hour hour (s / 3_600) && number_allowed (wants_minute rule.freq) rule.by_minute minute (s / 60 % 60)
     && number_allowed (wants_second rule.freq) rule.by_second second (s % 60)
 
--- ---- counts over a day, an hour and a minute, where a time of the start fills the parts
+-- ---- counts over a day, an hour and a minute, if a time of the start fills the parts
 
 -- how many seconds of a day before this one the time parts allow
 abbrev pub before_in_day : Rule → Time → ℕ → ℕ

@@ -7,7 +7,7 @@ pub fn positions_are_by_parts()
     ensures { PositionsAreByParts }
 {}
 
-/// BYSETPOS chooses a candidate exactly where it lists that rank, counted from the front or from the back.
+/// BYSETPOS chooses a candidate exactly if it lists that rank, counted from the front or from the back.
 pub fn set_positions_are_by_parts()
     ensures { SetPositionsAreByParts }
 {}

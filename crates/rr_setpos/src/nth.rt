@@ -17,7 +17,7 @@ use rr_model::{Freq, Kind, Rule, moment_at, second_part};
 use rr_num::is_congruent;
 use rr_parts::{Moment, date_parts_hold, seconds_of_unit, unit_fits, unit_number};
 
-/// The candidate of a unit at the position `place`, from 1 from the front, or negative from the back; none exactly where there
+/// The candidate of a unit at the position `place`, from 1 from the front, or negative from the back; none exactly if there
 /// is none (RFC 5545, section 3.3.10, BYSETPOS).
 ///
 /// Units are numbered as those of the rule's frequency, the start and the candidate as in `chosen`. The candidate may
@@ -38,7 +38,7 @@ pub fn nth_of_unit(rule: &Rule, kind: Kind, start: i64, unit: i64, place: i64) -
     }
 }
 
-// The same where units are whole days.
+// The candidate of a unit of whole days at a position.
 fn nth_of_days(rule: &Rule, start: &Moment, unit: i64, position: i64) -> Option<i64>
     requires freq { IsTrue (is_whole_days rule.now.freq) }
     requires interval { 1 ≤ rule.now.interval }
@@ -63,7 +63,7 @@ fn nth_of_days(rule: &Rule, start: &Moment, unit: i64, position: i64) -> Option<
     }
 }
 
-// The same where units are shorter than a day.
+// The candidate of a unit shorter than a day at a position.
 fn nth_of_seconds(rule: &Rule, start: &Moment, unit: i64, position: i64) -> Option<i64>
     requires kind { start.now.kind ≡ Moments }
     requires freq { is_whole_days rule.now.freq ≡ false }
@@ -92,7 +92,7 @@ fn nth_of_seconds(rule: &Rule, start: &Moment, unit: i64, position: i64) -> Opti
 }
 
 /// The rank, from 0, of a position among `size`: from 1 from the front, or negative from the back; none exactly
-/// where there is none (RFC 5545, section 3.3.10, BYSETPOS).
+/// if there is none (RFC 5545, section 3.3.10, BYSETPOS).
 pub fn rank_of(position: i64, size: u32) -> Option<u32>
     requires { position ≡ pos 0 → ⊥ }
     ensures { IsRankOf position size result }

@@ -29,7 +29,8 @@ pub(crate) fn nth_time(rule: &Rule, start: &Moment, rank: u32) -> u32
     }
 }
 
-// The same in kind `Moments`, where the start's own time fills the parts.
+// The second of rank `rank`, from 0, among those of a day that the time parts allow; parts that are absent and wanted
+// are filled with `own`, the start's time.
 fn nth_in_day(rule: &Rule, own: Time, rank: u32) -> u32
     requires { rank < before_in_day rule.now own 86_400 }
     ensures within { result < 86_400 }

@@ -31,7 +31,8 @@ pub(crate) fn times_before(rule: &Rule, start: &Moment, second: u32) -> u32
     }
 }
 
-// The same in kind `Moments`, where the start's own time fills the parts.
+// How many seconds of a day before this one the time parts allow; parts that are absent and wanted are filled with
+// `own`, the start's time.
 fn before_in_day(rule: &Rule, own: Time, second: u32) -> u32
     requires { second ≤ 86_400 }
     ensures value { result ≡ before_in_day rule.now own second }
@@ -69,7 +70,7 @@ pub(crate) fn before_in_minute(rule: &Rule, own: Time, second: u8) -> u32
     count_allowed(&rule.by_second, wants_second(rule.freq), own.second, second)
 }
 
-// How many numbers below `end` the part allows, where it is filled with the start's own number if absent and wanted.
+// How many numbers below `end` the part allows; if it is absent and wanted, it has the start's own number alone.
 fn count_allowed(part: &Numbers, is_wanted: bool, own: u8, end: u8) -> u32
     ensures value { result ≡ count_seconds (λ n. number_allowed is_wanted part.now own n) end }
     ensures few { result ≤ end }
@@ -83,7 +84,7 @@ fn count_allowed(part: &Numbers, is_wanted: bool, own: u8, end: u8) -> u32
     count
 }
 
-// The number, or 0.
+// The number `n` if `is_allowed`, and 0 otherwise.
 fn if_allowed(is_allowed: bool, n: u32) -> u32
     ensures value { result ≡ if is_allowed then n else 0 }
     ensures few { result ≤ n }

@@ -22,7 +22,7 @@ use Rattle.rr_skip.specs.declared.parts.ScaledParts.{ScaledParts}
 
 -- ---- values
 
--- a list is read alike where each value is
+-- a list is read alike if each value is
 placed_same : {X : Type 0} (below : X → X → Bool) (f g : List ℕ → Result X Refusal) → ((t : List ℕ) (x : X) → f t ≡ Ok x → g t ≡ Ok x)
     → (list : List X) (texts : List (List ℕ)) (all : List X) → rising_values below f list texts ≡ Ok all → rising_values below g list texts ≡ Ok all
 placed_same below f g same list [] all h = h

@@ -132,7 +132,7 @@ no_rule_line : (before after : List UsedLine) (number : ℕ) (value : List ℕ) 
 no_rule_line [] after number value are = are.0
 no_rule_line (line ∷ before) after number value are = no_rule_line before after number value are.1
 
--- a line before a rule, where each line is read
+-- a line before a rule, if each line is read
 start_before : (index : ℕ) (name : LineName) (before after : List UsedLine) (number : ℕ) (value : List ℕ)
     → (first_unread false (index + 1) (with_rule_line before number value after) ≡ None → AreStarts before × AreStarts after)
     → line_refusal false name ≡ None → first_unread (is_rule name) (index + 1) (with_rule_line before number value after) ≡ None
@@ -288,7 +288,7 @@ behind_first offset scan read =
     second_pass skip_language (skip_rule_beside offset start) offset start nothing_beside scan.used >>= λ beside.
     Ok (record { start = start; beside = beside })
 
--- where both passes end well each line is read
+-- if both passes end well each line is read
 all_read : (scan : Scan) (unread : Option Unread) (event : Event SkipRule) (offset : Option ℤ)
     → passes skip_language (skip_rule_beside offset) offset (lines_until scan unread) ≡ Ok event → unread ≡ None
 all_read scan None event offset h = refl

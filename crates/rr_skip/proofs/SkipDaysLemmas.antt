@@ -189,7 +189,7 @@ module _ (rule : SkipRule) (kind : Kind) (start : ℤ) where
     inside_at : (k : ℕ) → count_from chosen first (k + 1) ≤ count → within (first +ℤ pos k) ≡ true
     inside_at k low = within_is k ∙ grind (arith, nat_tests)
 
-    -- where the first `n` days hold all that are counted, none after them is a member
+    -- if the first `n` days hold all that are counted, none after them is a member
     over : (n : ℕ) → count_from chosen first n ≡ count → (k : ℕ) → n ≤ k → test (first +ℤ pos k) ≡ false
     over n all k l = elim (cases_Bool (chosen (first +ℤ pos k))) [
       | inl c ↦ (

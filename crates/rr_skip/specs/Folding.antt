@@ -86,7 +86,7 @@ pub record IsUpToUntil (first last : ℤ) (walk : Walk) (days : SkipDays) : Type
 abbrev pub sets_of : ℕ → List (List ℕ)
 sets_of second = [] ∷ (second ∷ []) ∷ []
 
--- the sketch of the days, each with the start's second where it is occupied
+-- the sketch of the days, each with the start's second if it is occupied
 abbrev pub skip_sketch : Kind → ℤ → SkipDays → Sketch
 skip_sketch kind start days =
     sketch_of kind (sets_of (second_part kind start)) days.numbers.items (day_part kind start) days.settled days.period

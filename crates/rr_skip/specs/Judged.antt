@@ -23,7 +23,7 @@ pub record StandsForSeries (series : SkipSeries) (sketch : Sketch) : Type 0 wher
   pub period : sketch.period ≡ skip_cycle series
   pub near : sketch.settled ≤ℤ pos 20_000_000
 
--- the days where no limit refuses the series; the first limit that does; or out of memory
+-- the days if no limit refuses the series; the first limit that does; or out of memory
 abbrev pub IsFoldedSeries : {A : Type 0} → (A → Sketch) → SkipSeries → Result A Fault → Type 0
 IsFoldedSeries sketch series (Ok days) = StandsForSeries series (sketch days) × IsSkipLimitRefusal series None
 IsFoldedSeries sketch series (Err (Refused refusal)) = IsSkipLimitRefusal series (Some refusal)

@@ -34,7 +34,7 @@ pub record OccursSkipping (series : SkipSeries) (k : Kind) (t : ℤ) : Type 0 wh
 
 -- ---- limits
 
--- what a rule adds to the cycle of its series: its own cycle where it is endless
+-- what a rule adds to the cycle of its series: its own cycle if it is endless
 abbrev pub cycle_by : Option SkipRule → ℕ
 cycle_by None = 1
 cycle_by (Some rule) = endless_cycle rule.rule.end rule.rule

@@ -19,7 +19,7 @@ use Rattle.rr_skip.specs.declared.series.SkipRule.{SkipRule}
 
 -- ---- months, by their numbers
 
--- the unit of a month: its year in a yearly rule, and else the month itself
+-- the unit of a month: its year in a yearly rule, and otherwise the month itself
 abbrev pub unit_of_month : Freq → ℤ → ℤ
 unit_of_month Yearly n = floor_div n 12
 unit_of_month freq n = n
@@ -34,7 +34,7 @@ length_of_month n = days_in_month (floor_div n 12) (month_of_year n)
 
 -- ---- the months of a rule
 
--- which months a rule asks for, and which of their days: BYMONTH and BYMONTHDAY, where the rule lacks and wants them, are taken from its start
+-- which months a rule asks for, and which of their days: BYMONTH and BYMONTHDAY, if the rule lacks and wants them, are taken from its start
 abbrev pub schedule_of : SkipRule → ℤ → Schedule
 schedule_of rule start_day = record {
   skip = rule.skip;

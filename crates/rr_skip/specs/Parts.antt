@@ -35,7 +35,7 @@ is_taken part.ByMonthDay = true
 is_taken part.ByMonth = true
 is_taken name = false
 
--- a part of RFC 5545, where it is read
+-- a part of RFC 5545, if it is read
 abbrev pub taken_part : PartName → Result ScalePart Refusal
 taken_part name = if is_taken name then Ok (Of name) else Err Extended
 

@@ -17,7 +17,7 @@ pub record IsTurn (schedule : Schedule) (turn : Turn) : Type 0 where
   pub was_due : turn.was_due ≡ is_due schedule turn.before.number
   pub is_due : turn.is_due ≡ is_due schedule turn.month.number
 
--- each number is 1 where its day passes the test, and 0 where it does not
+-- each number is 1 if its day passes the test, and 0 if it does not
 abbrev pub AreTested : (ℤ → Bool) → ℤ → List ℕ → Type 0
 AreTested test first numbers = (k : ℕ) → k < length numbers → get_or numbers k 0 ≡ one_if (test (first +ℤ pos k))
 

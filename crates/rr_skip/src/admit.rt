@@ -10,7 +10,7 @@ use crate::{SkipRule, SkipSeries};
 use rr_model::{End, MAX_CYCLE_DAYS, Refusal};
 use rr_num::day_cycle;
 
-// What a rule adds to the cycle of its series: its own cycle where it is endless, and nothing where it ends.
+// What a rule adds to the cycle of its series: its own cycle if it is endless, and nothing if it ends.
 fn rule_cycle(rule: &SkipRule) -> u128
     requires { 1 ≤ rule.now.rule.interval }
     ensures value { result ≡ endless_cycle rule.now.rule.end rule.now.rule }
@@ -23,9 +23,9 @@ fn rule_cycle(rule: &SkipRule) -> u128
 }
 
 impl SkipSeries {
-    /// The cycle of the series in days: that of its rule where the rule is endless, and else 1.
+    /// The cycle of the series in days: that of its rule if the rule is endless, and otherwise 1.
     ///
-    /// `CycleTooLong` exactly where it is above `MAX_CYCLE_DAYS`.
+    /// `CycleTooLong` exactly if it is above `MAX_CYCLE_DAYS`.
     pub fn admit(&self) -> Result<u64, Refusal>
         requires { IsSoundSkipping self.now }
         ensures admitted { IfOk result
@@ -40,7 +40,7 @@ impl SkipSeries {
     }
 }
 
-// The cycle, where it is at most `MAX_CYCLE_DAYS`.
+// The cycle, if it is at most `MAX_CYCLE_DAYS`.
 fn within_limit(cycle: u128) -> Result<u64, Refusal>
     ensures admitted { IfOk result (λ days. (days ≡ cycle) × (days ≤ MAX_CYCLE_DAYS)) }
     ensures refused { IfErr result

@@ -41,7 +41,7 @@ fn chooses_start(alloc: Global, kind: Kind, start: i64, rule: &SkipRule) -> Resu
     chooses_day(alloc, rule, day_in_years(kind, start))
 }
 
-// The rule, where it chooses its start.
+// The rule, if it chooses its start.
 fn unless_unsynchronised(
     alloc: Global,
     kind: Kind,
@@ -131,8 +131,8 @@ fn read_text(alloc: Global, offset: Option<i32>, text: &[u8]) -> Result<SkipSeri
 /// The first fault is the refusal. `NotText` comes for bytes that are no UTF-8. Then line by line, from left to right, what
 /// `rr_ical::event_lines` refuses; of DTSTART `PartTwice`, `BadMoment`; of RRULE `TooManyParts` for a second one, then the
 /// faults of its parts; of RDATE, EXDATE and EXRULE `Extended`. At the end of the text `BadLine` for an open component,
-/// `NoStart`. Then beside the start, of UNTIL `UtcMoment` without an offset, `BadMoment` where the offset leaves the years 1 to
-/// 9999, `UntilKind`, `UntilBeforeStart`; and `NotSynchronised(1)` where the rule does not choose the start.
+/// `NoStart`. Then beside the start, of UNTIL `UtcMoment` without an offset, `BadMoment` if the offset leaves the years 1 to
+/// 9999, `UntilKind`, `UntilBeforeStart`; and `NotSynchronised(1)` if the rule does not choose the start.
 ///
 /// Of each part of the rule, from left to right, come `BadRule` for a name that no part has, `Extended` for another part of
 /// RFC 5545, `PartTwice`, `BadRule` for a value of another form (`BadMoment` for UNTIL), `Extended` for a calendar other than

@@ -47,7 +47,7 @@ pub(crate) fn day_in_years(kind: Kind, at: i64) -> i64
     day_part(kind, at)
 }
 
-// Walks `end` days of a rule from its start's on; where the chosen day of number `most`, counted from 1, comes before, up to that one only.
+// Walks `end` days of a rule from its start's on; if the chosen day of number `most`, counted from 1, comes before, up to that one only.
 fn walk_of(
     alloc: Global,
     rule: &SkipRule,
@@ -91,7 +91,7 @@ fn endless_days(
     })
 }
 
-// How many days from the first one on have their second not after an UNTIL. The UNTIL's own day is the last of them, where its second allows it.
+// How many days from the first one on have their second not after an UNTIL. The UNTIL's own day is the last of them, if its second allows it.
 fn days_until(kind: Kind, first: i64, second: u32, at: i64) -> usize
     requires until { IsUntilDay kind first second at }
     requires start { IsInYears kind at }
@@ -249,7 +249,7 @@ fn sets_of(alloc: Global, second: u32) -> Result<Shapes, NoMemory>
 /// Folds a series whose cycle is at most `MAX_CYCLE_DAYS`, as `admit` gives it: from the settled day on its days repeat with the
 /// cycle. What occurs is by RFC 7529, section 4.1.
 ///
-/// `CountedTooFar` exactly where its rule has COUNT and fewer members than it counts up to `MAX_SPAN_DAYS` days after the start's
+/// `CountedTooFar` exactly if its rule has COUNT and fewer members than it counts up to `MAX_SPAN_DAYS` days after the start's
 /// day. It keeps four bytes for each day from the start's on, up to a cycle past the settled day.
 pub fn fold_skip(alloc: Global, series: &SkipSeries) -> Result<Folded, Fault>
     requires sound { IsSoundSkipping series.now }

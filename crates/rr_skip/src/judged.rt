@@ -9,9 +9,9 @@ use rr_days::Folded;
 use rr_model::Fault;
 use std::alloc::Global;
 
-/// Folds a series where no limit refuses it.
+/// Folds a series if no limit refuses it.
 ///
-/// First `CycleTooLong` comes where `admit` gives it, and then `CountedTooFar` where `fold_skip` does.
+/// First `CycleTooLong` comes if `admit` gives it, and then `CountedTooFar` if `fold_skip` does.
 pub fn fold_admitted(alloc: Global, series: &SkipSeries) -> Result<Folded, Fault>
     requires sound { IsSoundSkipping series.now }
     ensures { IsFoldedSeries sketch series.now result }

@@ -9,7 +9,7 @@ use rr_model::{LineName, Refusal, Scan, UsedLine};
 pub(crate) struct Unread {
     /// How many lines stand before it.
     pub(crate) index: usize,
-    /// Why it is not.
+    /// Why it is not read.
     pub(crate) refusal: Refusal,
 }
 

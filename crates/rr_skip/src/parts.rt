@@ -21,7 +21,7 @@ use std::alloc::Global;
 /// The name of a part of such a rule.
 #[derive(Clone, Copy, Debug, PartialEq, Eq)]
 pub enum ScalePart {
-    /// RSCALE, the calendar.
+    /// RSCALE, the calendar in which the rule counts (RFC 7529, section 4.1).
     Scale,
     /// SKIP, what becomes of a day that a month lacks.
     Skipping,
@@ -32,9 +32,9 @@ pub enum ScalePart {
 /// The parts of such a rule as far as they are read.
 #[derive(Drop)]
 pub struct ScaledParts {
-    /// Whether RSCALE is present.
+    /// Whether RSCALE is present; GREGORIAN is its only value that is read.
     pub has_scale: bool,
-    /// SKIP.
+    /// The value of SKIP, if it is present.
     pub skip: Option<Skip>,
     /// The parts of RFC 5545.
     pub parts: RuleParts,
@@ -163,7 +163,7 @@ fn front_days(alloc: Global, line: u64, text: &[u8]) -> Result<Numbers, Fault>
     }
 }
 
-// Puts the value of one more part of RFC 5545 in its place.
+// Puts the value of a further part of RFC 5545 in its place.
 fn put_taken_value(
     alloc: Global,
     line: u64,
@@ -191,7 +191,7 @@ fn put_skip(line: u64, parts: &mut ScaledParts, text: &[u8]) -> Result<(), Fault
     Ok(())
 }
 
-// Puts the value of one more part in its place.
+// Puts the value of a further part in its place.
 fn put_scale_value(
     alloc: Global,
     line: u64,
@@ -208,7 +208,7 @@ fn put_scale_value(
     }
 }
 
-// Puts one more part, `NAME=value`, in its place.
+// Puts a further part, `NAME=value`, in its place.
 #[tactic(auto, unfolding(crate::specs::Parts::with_scale_part))]
 fn put_scale_part(
     alloc: Global,

@@ -24,13 +24,13 @@ pub struct Schedule {
     pub interval: u32,
     /// The month or the year of the start.
     pub start_unit: i64,
-    /// BYMONTH, taken from the start where the rule lacks and wants it.
+    /// BYMONTH, taken from the start if the rule lacks and wants it.
     pub months: Numbers,
-    /// BYMONTHDAY, taken from the start where the rule lacks it.
+    /// BYMONTHDAY, taken from the start if the rule lacks it.
     pub days: Numbers,
 }
 
-// The unit of a month: its year in a yearly rule, and else the month itself.
+// The unit of a month: its year in a yearly rule, and otherwise the month itself.
 fn unit_of_month(freq: Freq, month: i64) -> i64
     ensures { result ≡ unit_of_month freq month }
 {
@@ -47,7 +47,7 @@ fn month_of_year(month: i64) -> i16
     month.rem_euclid(12) as i16 + 1
 }
 
-// A part of a rule; where it is absent and wanted, the start's own number alone.
+// A part of a rule; if it is absent and wanted, the start's own number alone.
 fn filled_part(
     alloc: Global,
     values: &Numbers,

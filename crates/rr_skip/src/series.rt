@@ -4,11 +4,11 @@ use rr_model::{Kind, Rule};
 /// SKIP, what becomes of a listed day that a month lacks (RFC 7529, section 4.1).
 #[derive(Clone, Copy, Debug, PartialEq, Eq)]
 pub enum Skip {
-    /// It is left out.
+    /// OMIT: the day is left out.
     Omit,
-    /// It moves to the last day of the month.
+    /// BACKWARD: it moves to the last day of the month.
     Backward,
-    /// It moves to the first day of the next month.
+    /// FORWARD: it moves to the first day of the next month.
     Forward,
 }
 

@@ -19,7 +19,7 @@ pub(crate) struct Walk {
 }
 
 impl Walk {
-    // Adds a day.
+    // Adds a day at the end, and counts it if it is chosen.
     fn put(&mut self, is_chosen: bool) -> Result<(), NoMemory>
         requires { 1 ≤ self.old.left }
         ensures { OnOk result (IsStepped is_chosen self.old self.new) }
@@ -43,7 +43,7 @@ pub(crate) fn day_at(first: i64, index: usize) -> i64
     first + index as i64
 }
 
-/// Walks `end` days from the first one on; where the chosen day of number `most`, counted from 1, comes before, up to that one only.
+/// Walks `end` days from the first one on; if the chosen day of number `most`, counted from 1, comes before, up to that one only.
 pub(crate) fn walk_days(
     alloc: Global,
     schedule: &Schedule,

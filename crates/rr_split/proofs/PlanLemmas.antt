@@ -43,7 +43,7 @@ module _ (P : Occurrences) (kind : Kind) (start : ℤ) where
   found_begins repeat.Once f = absurd f
   found_begins (repeat.Pattern pattern range) f = f.begins
 
-  -- where no pattern has the set, none is found
+  -- if no pattern has the set, none is found
   none_found : (r : Repeat) → IsGraphFound P None → IsFirstRepeat P r kind start → ⊥
   none_found repeat.Once none f = f
   none_found (repeat.Pattern pattern range) none f = none pattern range kind start f.is_pattern

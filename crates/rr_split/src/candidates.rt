@@ -13,7 +13,7 @@ use rr_model::{GraphEvent, NoMemory};
 use std::alloc::Global;
 
 /// Sets that are worth taking out of a set, one after another: the days of guessed events, of which those that follow one another
-/// are joined as long as one rule has them all. Where no events cover the set, its days from the settled day on, those of each second
+/// are joined as long as one rule has them all. If no events cover the set, its days from the settled day on, those of each second
 /// as a set, and guessed events of the others; more than `most` sets are of no use.
 pub(crate) fn candidates(
     alloc: Global,

@@ -102,7 +102,7 @@ fn combined(
     }
 }
 
-// Whether two sets are compared over at most so many days.
+// Whether two sets are compared over at most `most_days` days.
 fn are_compared_within(a: &Folded, b: &Folded, most_days: u64) -> bool {
     match lcm_within(a.period(), b.period(), most_days) {
         None => false,

@@ -17,9 +17,9 @@ use std::alloc::Global;
 /// An event of a set, and what is left of the set without it.
 #[derive(Drop)]
 pub(crate) struct TakenEvent {
-    /// The event.
+    /// The event of vCalendar 1.0, which has one rule.
     pub event: VSeries,
-    /// What is left.
+    /// The set without the occurrences of the event.
     pub left: Folded,
 }
 

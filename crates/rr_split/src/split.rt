@@ -23,7 +23,7 @@ use std::alloc::Global;
 /// The series and the single occurrences of which a set is made.
 #[derive(Drop)]
 pub struct Plan {
-    /// The series.
+    /// The series, in the order in which they are printed.
     pub parts: Vec<Part>,
     /// Whether the single occurrences are dates or moments.
     pub kind: Kind,

@@ -15,9 +15,9 @@ use std::alloc::Global;
 /// A part of a set, and what is left of the set without it.
 #[derive(Drop)]
 pub(crate) struct Taken {
-    /// The part.
+    /// The part that was taken out.
     pub part: Part,
-    /// What is left.
+    /// The set without the occurrences of the part.
     pub left: Folded,
 }
 

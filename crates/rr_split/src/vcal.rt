@@ -111,7 +111,7 @@ fn plan_by_candidates(
     }))
 }
 
-// The first sets of a list, at most so many.
+// The first `most` sets of a list, or all if there are fewer.
 fn first_sets(sets: &[Folded], most: usize) -> &[Folded]
     ensures { length result.now ≤ most }
 {

@@ -47,7 +47,7 @@ of_three a b c h = let two = first_of (a && b) c h in (first_of a b two, second_
 
 -- ---- parts
 
--- a part that is filled is the same for two values that are one where it is filled
+-- a part that is filled is the same for two values that are one if it is filled
 part_same : {X : Type 0} (wanted : Bool) (values : List X) (a b : X) → ((wanted && is_absent values) ≡ true → a ≡ b)
     → filled_part wanted values a ≡ filled_part wanted values b
 part_same true [] a b h = ap (λ x. x ∷ []) (h refl)

@@ -34,7 +34,7 @@ pub(crate) fn first_of_off(alloc: Global, series: &Series) -> Result<Option<i64>
     }
 }
 
-// Whether a series has one rule, no excluded one, a start that counts, and room for one date more.
+// Whether a series has one rule, no excluded one, a start that counts, and room for a further date.
 fn is_open(series: &Series) -> bool
     requires { IsValidSeries series.now }
     ensures { IsTrue result ↔ IsOpen series.now }

@@ -18,13 +18,13 @@ pub struct Reading {
 
 /// Restates a series whose start is off its rule: what it has occurs, and `check` takes it.
 ///
-/// RFC 5545, section 3.8.5.3, calls a series undefined if its rule does not choose its start; the start is an occurrence all
-/// the same, and then what the rule chooses. So the series that is given starts at the first moment after the start that the
-/// rule chooses, and the start is one of its dates added (RDATE).
+/// RFC 5545, section 3.8.5.3, calls a series undefined if its rule does not choose its start; the start is an
+/// occurrence all the same, and then what the rule chooses. So the series that is given starts at the first moment
+/// after the start that the rule chooses, and the start is one of its dates added (RDATE).
 ///
-/// Only a series is restated that has one rule, without COUNT, and no excluded rule, whose rule chooses a moment after the
-/// start, up to its UNTIL and in the years 1 to 9999, and that has room for one date more. Every other series is given as
-/// it is.
+/// Only a series is restated that has one rule, without COUNT, and no excluded rule, whose rule chooses a moment after
+/// the start, up to its UNTIL and in the years 1 to 9999, and that has room for a further date. Every other series is
+/// given as it is.
 pub fn reread(alloc: Global, series: Series) -> Result<Reading, NoMemory>
     requires { IsValidSeries series }
     ensures valid { IfOk result (λ read. IsValidSeries read.series) }

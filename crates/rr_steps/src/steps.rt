@@ -29,7 +29,7 @@ impl<L: Ledger> Model for Steps<L> {
 impl<L: Ledger> Steps<L> {
     ghost use Rattle.std.specs.Prelude.{◌≡◌, ◌+◌, ◌<◌};
 
-    /// No step is taken yet.
+    /// A counter at which no step is taken yet, opened with a blank of its ledger that has all its parts.
     pub fn new(blank: Blank) -> Self
         requires name { blank.name ≡ L.name }
         requires parts { blank.parts ≡ L.parts }
@@ -40,14 +40,14 @@ impl<L: Ledger> Steps<L> {
         Steps { book, share }
     }
 
-    /// One step more.
+    /// Counts a step. It does nothing at run time.
     pub fn tick(&mut self)
         ensures { self.new ≡ self.old + 1 }
     {
         self.book.add(&mut self.share, 1);
     }
 
-    /// `count` steps more, at once.
+    /// Counts `count` steps at once. It does nothing at run time.
     pub fn tick_many(&mut self, count: u64)
         ensures { self.new ≡ self.old + count }
     {

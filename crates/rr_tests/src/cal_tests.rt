@@ -18,7 +18,7 @@ const DATES: &str = "\
 3000000000000|(8213722990, 12, 19, true)
 ";
 
-// The last or first day of a year, its weekday, and the year, the number and the year's last number of its week where weeks begin on
+// The last or first day of a year, its weekday, and the year, the number and the year's last number of its week if weeks begin on
 // Monday and on Sunday.
 const WEEKS: &str = "\
 10226|(2, (1998, 1, 53), (1997, 53, 53))

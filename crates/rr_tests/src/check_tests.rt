@@ -4,7 +4,7 @@ use rr_model::End;
 use rr_text::basic;
 use std::alloc::Global;
 
-// The start, the most members and the last date or moment, where they are stated, and the refusal of that end.
+// The start, the most members and the last date or moment, if they are stated, and the refusal of that end.
 const ENDS: &str = "\
 20240101 - -|None
 20240101 1 -|None
@@ -17,7 +17,7 @@ const ENDS: &str = "\
 20240101T090000 2 20240101|Some(UntilKind)
 ";
 
-// The end of this number of members and at a date or moment, where they are stated.
+// The end of this number of members and at a date or moment, if they are stated.
 fn end_of(count: &str, until: &str) -> End {
     match (count.parse::<u64>().ok(), basic(until.as_bytes())) {
         (None, None) => End::Never,

@@ -59,7 +59,7 @@ fn verdict_of(name: &str, a: &Folded, b: &Folded) -> Option<Verdict> {
     }
 }
 
-// A row `NAME|A|B|VERDICT` holds.
+// Asserts that the verdict of this name on the series A and B is the one that a row `NAME|A|B|VERDICT` states.
 fn row_holds(rt: &impl Abort, alloc: Global, row: &str) {
     let (given, wanted) = row.rsplit_once('|').expect(rt, "a row has a verdict");
     let (given, b) = given.rsplit_once('|').expect(rt, "a row has a text B");

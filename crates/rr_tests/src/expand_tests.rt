@@ -4,13 +4,13 @@ use rr_expand::{days, seconds_on, times, year_mask};
 use rr_model::{Freq, Kind, Rule};
 use std::alloc::Global;
 
-// 2024-01-01.
+// 2024-01-01, in days since 1970-01-01.
 const FIRST: i64 = 19_723;
 
-// 1997-09-02T09:00:00.
+// 1997-09-02T09:00:00, in seconds since 1970-01-01T00:00:00.
 const START: i64 = 873_190_800;
 
-// Rules, and the day 2024-02-29 where they have it.
+// Rules, and the day 2024-02-29 if they have it.
 const DAYS: &str = "\
 FREQ=DAILY;BYMONTHDAY=-1|[19782]
 ";
@@ -26,7 +26,7 @@ fn days_said(alloc: Global, given: &str) -> Option<String> {
     rule_said(alloc, "20240101", given, days_of)
 }
 
-// Rules, and the seconds of each of their days, or of 1997-09-02 where these differ.
+// Rules, and the seconds of each of their days, or of 1997-09-02 if these differ.
 const TIMES: &str = "\
 FREQ=DAILY|[32400]
 FREQ=DAILY;BYHOUR=23;BYMINUTE=59;BYSECOND=5|[86345]

@@ -5,10 +5,10 @@ use rr_family::*;
 use rr_model::{FamilyKind, Freq, Item};
 use std::alloc::Global;
 
-// Monday, 1 January 2024.
+// Monday, 1 January 2024, in days since 1970-01-01.
 const FIRST: i64 = 19_723;
 
-// Wednesday, 31 January 2024.
+// Wednesday, 31 January 2024, in days since 1970-01-01.
 const LAST_OF_JANUARY: i64 = 19_753;
 
 // Kinds with places, and the items there.

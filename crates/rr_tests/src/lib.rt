@@ -1,6 +1,6 @@
-//! Tests of the public calls of the crates below the program: outside examples, printed text, and each call once where it answers.
-//! They stand here, and not in the crates, since a crate with tests is proved once more for them. What `rr` prints is
-//! tried on the built program, by tests/run.
+//! Tests of the public calls of the crates below the program: outside examples, printed text, and each call once with
+//! input that it answers. They stand here, and not in the crates, since a crate with tests is proved once more for
+//! them. What `rr` prints is tried on the built program, by tests/run.
 #![tactic(auto)]
 
 #[cfg(test)]

@@ -180,7 +180,7 @@ fn lists_put_values_at_the_end(rt: HostRuntime) {
     is_said(&rt, vrules_said(rt.alloc()), "(2, 1)", "rules of vCalendar");
 }
 
-// A rule whose copy then gets one more month, and what the copy has.
+// A rule whose copy then gets a further month, and what the copy has.
 const COPIED: &str = "\
 FREQ=YEARLY;INTERVAL=4;BYMONTH=2;BYMONTHDAY=29;BYDAY=TH|\
 (Yearly, 4, true, ([2, 3], [29], [DayItem { place: 0, weekday: 3 }]))
@@ -197,7 +197,7 @@ fn parts_said(alloc: Global, rule: &Rule) -> Option<String> {
     printed(alloc, &parts)
 }
 
-// None where the rule itself gets the month too.
+// None if the rule itself gets the month too.
 fn copy_said(alloc: Global, given: &str) -> Option<String> {
     let series = series_of(alloc, "20240229", given)?;
     let rule = only_rule(&series)?;

@@ -44,7 +44,7 @@ fn worked_cycle_of_weeks(rt: HostRuntime) {
     assert!(rt; cycle_of_weeks(rt.alloc()) == Some(292_194));
 }
 
-// Two numbers, a third one, and their least common multiple where it is not above that.
+// Two numbers, a third one, and their least common multiple if it is not above that.
 const MULTIPLES: &str = "\
 4 6 12|Some(12)
 4 6 11|None

@@ -9,12 +9,12 @@ use std::alloc::Global;
 use std::fmt::Debug;
 use std::process::Abort;
 
-// What `{:?}` prints of a value; none where memory is lacking.
+// What `{:?}` prints of a value; none if memory is lacking.
 pub(crate) fn printed<T: Debug>(alloc: Global, value: &T) -> Option<String> {
     format!(in alloc; "{value:?}").ok()
 }
 
-// What is said is what is wanted; nothing is said where a case is not understood or memory is lacking.
+// What is said is what is wanted; nothing is said if a case is not understood or memory is lacking.
 pub(crate) fn is_said(rt: &impl Abort, said: Option<String>, wanted: &str, of: &str) {
     let said = match &said {
         Some(said) => said.as_str(),
@@ -23,7 +23,8 @@ pub(crate) fn is_said(rt: &impl Abort, said: Option<String>, wanted: &str, of: &
     assert!(rt; said == wanted, "{of}: {said}");
 }
 
-// A row `GIVEN|SAID` holds, where `~` stands for each line break of what is given.
+// Asserts that what is said of `GIVEN` in a row `GIVEN|SAID` is `SAID`. `~` stands for each line break of what is
+// given.
 fn row_holds(rt: &impl Abort, alloc: Global, say: fn(Global, &str) -> Option<String>, row: &str)
     requires { IsAlwaysCallable say }
 {

@@ -37,7 +37,7 @@ fn zeros_from(pages: &Pages, place: usize) -> usize {
     }
 }
 
-// Puts `count` numbers from a place on once more at the end, where there are that many.
+// Puts `count` numbers from a place on once more at the end, if there are that many.
 fn put_again(pages: &mut Pages, place: usize, count: usize) -> Option<()> {
     let len = pages.len();
     if place <= len && count <= len - place {
@@ -47,7 +47,7 @@ fn put_again(pages: &mut Pages, place: usize, count: usize) -> Option<()> {
     }
 }
 
-// `count` numbers of another list from a place on, where there are that many.
+// `count` numbers of another list from a place on, if there are that many.
 fn part_of(alloc: Global, other: &Pages, place: usize, count: usize) -> Option<Pages> {
     let len = other.len();
     if place > len || count > len - place {

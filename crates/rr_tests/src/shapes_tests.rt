@@ -17,7 +17,7 @@ fn all_but(alloc: Global, day: &TimeSet, second: u8) -> Option<TimeSet> {
     TimeSet::without(alloc, day, &one).ok()
 }
 
-// The numbers of days that each lack one of the first seconds; none where the number is not the second.
+// The numbers of days that each lack one of the first seconds; none if the number is not the second.
 fn numbered(alloc: Global, day: &TimeSet) -> Option<Shapes> {
     let mut shapes = Shapes::new(alloc);
     for second in 0..194 {
@@ -29,7 +29,8 @@ fn numbered(alloc: Global, day: &TimeSet) -> Option<Shapes> {
     Some(shapes)
 }
 
-// What comes after these: one more such day, a part of the day that fits, and one of these again with its number of seconds.
+// What is said once these are there: of another such day, of a part of the day that fits, and of one of these put
+// again, with its number of seconds.
 fn last_numbers(alloc: Global) -> Option<String> {
     let day = whole_day(alloc)?;
     let mut shapes = numbered(alloc, &day)?;

@@ -46,7 +46,7 @@ fn day_said(alloc: Global, given: &str) -> Option<String> {
     printed(alloc, &!days.at(day).is_empty())
 }
 
-// Without RSCALE.
+// A rule with SKIP and without RSCALE, which must not stand so (RFC 7529, section 4.1).
 const REFUSED: &str = "\
 DTSTART:20240131~RRULE:FREQ=MONTHLY;SKIP=FORWARD~|Some(Refused(Extended))
 ";

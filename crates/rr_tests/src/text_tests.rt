@@ -112,7 +112,7 @@ D~ T~ S|1 DTS|
 a~ ~b|1 a|3 b|
 ";
 
-// The same where the blank after a break is kept.
+// Texts, and their lines with the blank after each break kept, each with its number.
 const KEPT: &str = "\
 |
 ~|1 |

@@ -61,7 +61,7 @@ fn say_further(said: &mut String, further: Further) -> Option<()> {
     }
 }
 
-// Where local times differ.
+// Appends where local times differ, and their signs day by day.
 fn say_difference(alloc: Global, said: &mut String, difference: &Difference) -> Option<()> {
     say_further(said, difference.further)?;
     for month in &difference.months {

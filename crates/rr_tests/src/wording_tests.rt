@@ -42,7 +42,7 @@ FREQ=YEARLY;BYYEARDAY=60;BYMONTHDAY=1,29|every year on the 60th day of the year 
 FREQ=YEARLY;INTERVAL=4;BYMONTH=11;BYDAY=TU;BYMONTHDAY=2,3|every 4 years in November on the 2nd and 3rd day of the month (if that is a Tuesday) at 09:30, from 9 January 2024
 ";
 
-// Whole series.
+// Whole series, and their words.
 const SERIES: &str = "\
 DTSTART:20240109T093000~|once, on 9 January 2024 at 09:30
 DTSTART:00010203T000500~|once, on 3 February 1 at 00:05

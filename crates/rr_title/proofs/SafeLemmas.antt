@@ -14,7 +14,7 @@ taken (suc n) (b ∷ bs) = ap (λ (xs : List ℕ). b ∷ xs) (taken n bs)
 
 -- ---- a character is told by its own bytes
 
--- how many bytes it has where two tests hold
+-- how many bytes it has if two tests hold
 bytes_by : (m t : Bool) (k n : ℕ) → (if m then (if t then suc k else 0) else 0) ≡ suc n → n ≡ k
 bytes_by true true k n h = omega (arith, h)
 bytes_by true false k n h = absurd (omega (arith, h))

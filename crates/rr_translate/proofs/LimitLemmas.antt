@@ -8,6 +8,6 @@ use Rattle.rr_model.specs.declared.rule.Series.{Series}
 use Rattle.rr_model.specs.declared.limits.TheConstants.{MAX_CYCLE_DAYS}
 use Rattle.rr_translate.specs.Translated.{limits_of}
 
--- where the cycle alone is judged, a cycle within the limit is not refused
+-- if the cycle alone is judged, a cycle within the limit is not refused
 pub within_cycle : (series : Series) → series_cycle series ≤ MAX_CYCLE_DAYS → IsLimitRefusal (limits_of Rrule) series None
 within_cycle series few = inr ((λ h. absurd (omega (arith, h.1, few))), inr ((λ h. false≢true h.0), inr ((λ h. false≢true h.0), refl)))

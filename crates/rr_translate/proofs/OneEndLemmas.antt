@@ -1,4 +1,4 @@
--- A series keeps its occurrences where each rule with both ends has the earlier one alone.
+-- A series keeps its occurrences if each rule with both ends has the earlier one alone.
 use Rattle.std.proofs.Common.{◌≡◌, ◌↔◌, ℕ, suc, ◌+◌, ◌<◌, ◌≤◌, true, false, cond, List, [], ◌∷◌, All, map}
 use Rattle.std.proofs.Common.{ℤ, pos, nat_abs, ◌+ℤ◌, ◌-ℤ◌, ◌≤ℤ◌, ◌<ℤ◌, refl, sym, subst, ◌∙◌, inl, inr, ap, arith}
 use Rattle.std.specs.Prelude.{nat_le}

@@ -7,7 +7,7 @@ use Rattle.rr_model.specs.declared.rule.End.TheVariants.{Count, Until, Both}
 use Rattle.rr_model.specs.declared.rule.Rule.{Rule}
 use Rattle.rr_model.specs.declared.rule.Series.{Series}
 
--- of an end with COUNT and UNTIL the one that comes first: COUNT where `count` members or more lie up to the UNTIL
+-- of an end with COUNT and UNTIL the one that comes first: COUNT if `count` members or more lie up to the UNTIL
 abbrev pub one_end : Rule → Kind → ℤ → End → End
 one_end rule kind start (Both other at count) = if nat_le count (members_to rule kind start at) then Count count else Until other at
 one_end rule kind start end = end

@@ -73,7 +73,7 @@ IsTranslation Rrule series text = IsCalendarText series text
 IsTranslation Vcal series text = IsVcalText (Occurs series) text
 IsTranslation Graph series text = IsGraphText (Occurs series) text
 
--- ---- where there is none
+-- ---- if there is none
 
 -- no single rule of vCalendar 1.0 that is looked for has the occurrences
 abbrev pub HasNoRule : Occurrences → Type 0
@@ -96,7 +96,7 @@ abbrev pub limits_of : Lang → Limits
 limits_of Rrule = record { cycle = true; counts = false; moments = false }
 limits_of target = all_limits
 
--- Something that is wanted where no limit refuses the series; the first limit that does; else that there is none; or out of memory.
+-- Something that is wanted if no limit refuses the series; the first limit that does; otherwise that there is none; or out of memory.
 abbrev pub IsAnswered : {X : Type 0} → Limits → Series → (X → Type 0) → Type 0 → Result X Fault → Type 0
 IsAnswered limits series is none (Ok x) = IsLimitRefusal limits series None × is x
 IsAnswered limits series is none (Err (Refused refusal)) =
@@ -115,7 +115,7 @@ IsInferenceAnswer series result =
 
 -- ---- what is said of a set of days
 
--- something that is wanted; else that there is none; or out of memory
+-- something that is wanted; otherwise that there is none; or out of memory
 abbrev pub IsSaid : {X : Type 0} → (X → Type 0) → Type 0 → Result X Fault → Type 0
 IsSaid is none (Ok x) = is x
 IsSaid is none (Err (Refused refusal)) = none × (refusal ≡ NotSayable)

@@ -15,7 +15,7 @@ use rr_model::{Fault, Refusal};
 use rr_word::DaySeq;
 use std::alloc::Global;
 
-/// The text of the first pattern and range that have the occurrences of a set of days; `NotSayable` where there is none.
+/// The text of the first pattern and range that have the occurrences of a set of days; `NotSayable` if there is none.
 pub fn graph_of_days<A: DaySeq>(alloc: Global, days: &A) -> Result<Vec<u8>, Fault>
     ensures { IsSaid (λ text. IsGraphText (StandsIn (A.sketch days.now)) text.items)
         (HasNoPattern (StandsIn (A.sketch days.now))) result }

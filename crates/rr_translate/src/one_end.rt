@@ -81,7 +81,7 @@ fn rules_with_one_end(
 
 /// The series with the same occurrences of whose rules and excluded rules none has both ends (RFC 5545, section 3.3.10).
 ///
-/// Where a rule has both, its members up to the UNTIL are counted, one occupied day after another.
+/// If a rule has both, its members up to the UNTIL are counted, one occupied day after another.
 pub(crate) fn with_one_ends(alloc: Global, series: &Series) -> Result<Series, NoMemory>
     requires sound { IsSound series.now }
     ensures { IfOk result (λ made. made ≡ with_one_ends series.now) }

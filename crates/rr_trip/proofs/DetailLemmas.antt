@@ -23,7 +23,7 @@ of_both a b (Told (said.Compared verdict zones)) difference h d = absurd h
 of_both a b (Compared pair) difference h d =
     inr (pair_of_both (λ verdict days_a days_b. IsDifferenceBy verdict days_a days_b difference) a b pair h d)
 
--- where what is known of a key differs, what its events state does
+-- if what is known of a key differs, what its events state does
 pub difference_is : (a b : Option Stated) (j : Judged) (difference : Option Difference) → IsJudged a b j → IsDifferenceOfJudged j difference
     → IsDifferenceFor a b difference
 difference_is None None j difference h d = subst (λ k. IsDifferenceOfJudged k difference) h d

@@ -79,7 +79,7 @@ untold_a Q x y e h = none_is_some h.1.lengths_a (sym e ∙ h.1.of_a)
 pub untold_b : (Q : ℤ → Type 0) (x y : Option Lengths) → y ≡ None → HasOtherLength Q x y → ⊥
 untold_b Q x y e h = none_is_some h.1.lengths_b (sym e ∙ h.1.of_b)
 
--- ---- a length is said exactly where there is one
+-- ---- a length is said exactly if there is one
 
 abbrev is_length : Said → Bool
 is_length (Length other) = true
@@ -89,7 +89,7 @@ length_of_moments : (a b : Zone) (v : Verdict) (only_zones : Bool) → is_length
 length_of_moments a b Yes only_zones = refl
 length_of_moments a b (No k u side) only_zones = refl
 
--- nothing is said of lengths where times are compared
+-- nothing is said of lengths if times are compared
 no_length : (reading : Reading) (P Q : Series) (times : Said) → IsSaidBy reading P Q times → is_length times ≡ false
 no_length Reading.local P Q times h = ap is_length h.is
 no_length Reading.unknown P Q times h = ap is_length h.is

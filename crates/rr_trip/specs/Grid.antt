@@ -127,12 +127,12 @@ more_text count = if nat_lt 8 count then codes " and " ++ decimal (count - 8) ++
 abbrev pub times_text : List ℕ → List ℕ
 times_text times = time_list_text (take 8 times) ++ more_text (length times)
 
--- these times, or others where there are none
+-- these times, or others if there are none
 abbrev pub times_or : List ℕ → List ℕ → List ℕ
 times_or [] more = more
 times_or (second ∷ times) more = second ∷ times
 
--- the times of a day, those of A where it has some
+-- the times of a day, those of A if it has some
 abbrev pub times_of_day : Sketch → Sketch → ℤ → List ℕ
 times_of_day a b day = times_or (times_on a day) (times_on b day)
 

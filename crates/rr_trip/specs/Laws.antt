@@ -25,7 +25,7 @@ IsAlikeSaid said = (refusal : KeyRefusal) × (said ≡ Alike refusal)
 abbrev pub AreRefusedAlike : Stated → Stated → Type 0
 AreRefusedAlike a b = IsRefused a × (are_same_words a.words b.words ≡ true) × IsRefused b
 
--- A key that both calendars have is said to be alike exactly where both refuse it and state it in the same words.
+-- A key that both calendars have is said to be alike exactly if both refuse it and state it in the same words.
 abbrev pub AlikeIsExact : Type 0
 AlikeIsExact =
     (means_a means_b : Meaning) (a b : Stated) (said : Said) → IsSaidOfBoth means_a means_b a b said → IsAlikeSaid said ↔ AreRefusedAlike a b
@@ -40,7 +40,7 @@ EmptyHasNone = (series : Series) (k : Kind) (t : ℤ) → is_empty series ≡ tr
 abbrev pub IsLengthSaid : Said → Type 0
 IsLengthSaid said = (other : OtherLength) × (said ≡ Length other)
 
--- Behind what is said of times it is said that an occurrence has two lengths exactly where local times are equal for ever, both sides tell
+-- Behind what is said of times it is said that an occurrence has two lengths exactly if local times are equal for ever, both sides tell
 -- how long their occurrences are, and one has two lengths.
 abbrev pub LengthIsExact : Type 0
 LengthIsExact =

@@ -210,7 +210,7 @@ said_line key partner said marks title =
 abbrev pub is_difference : Said → Bool
 is_difference said = not (is_equal said) || is_unsure said
 
--- the line of a key, or nothing where it is left out
+-- the line of a key, or nothing if it is left out
 abbrev pub line_text : Bool → ReportLine → List ℕ
 line_text only_differences line =
     if not only_differences || is_difference line.said then said_line line.key line.partner line.said line.marks line.title else []

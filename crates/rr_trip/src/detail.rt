@@ -17,7 +17,7 @@ use std::alloc::Global;
 /// A month whose days are marked.
 #[derive(Drop)]
 pub struct Month {
-    /// Its first day, in days since 1970-01-01.
+    /// The first day of the month, in days since 1970-01-01.
     pub first: i64,
     /// The sign of each of its days: `=` if both have it at the same times, `x` if both have it at others, `A` or `B` if one alone has it,
     /// `.` if none has.
@@ -40,7 +40,7 @@ pub struct Difference {
 pub struct Detail {
     /// What A states, if it has such events and they state a series.
     pub series_a: Option<Series>,
-    /// What B states.
+    /// What B states, if it has such events and they state a series.
     pub series_b: Option<Series>,
     /// Where their local times differ, if both are compared and they do.
     pub difference: Option<Difference>,

@@ -27,13 +27,13 @@ const FIRST_DAY: i64 = -719_162;
 /// The first occurrences of events, at most `FIRST_OCCURRENCES`.
 #[derive(Drop)]
 pub enum FirstTimes {
-    /// The events are refused.
+    /// None are known, since the events are refused.
     Unread,
     /// Of dates, or of moments whose zone is not known: days since 1970-01-01, or seconds since then in local time.
     Local {
-        /// Of which kind they are.
+        /// Whether they are dates or moments.
         kind: Kind,
-        /// They, in order.
+        /// The first occurrences themselves, rising.
         local: Vec<i64>,
     },
     /// Of moments whose zone is known.
@@ -50,7 +50,7 @@ pub enum FirstTimes {
 pub struct Features {
     /// The title of the first event, empty if it has none.
     pub title: Bytes,
-    /// When they first occur.
+    /// When the first occurrences are.
     pub times: FirstTimes,
 }
 

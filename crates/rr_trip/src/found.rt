@@ -19,16 +19,16 @@ use std::alloc::Global;
 pub struct Found {
     /// The index of its group.
     pub index: usize,
-    /// By what.
+    /// By what of title and first occurrences it is found again.
     pub likeness: Likeness,
 }
 
 /// Which keys are found again under another one, by the indexes of their groups.
 #[derive(Drop)]
 pub struct FoundAgain {
-    /// Those of A.
+    /// For each key of A, that of B under which it is found again, if there is one.
     pub a: Vec<Option<Found>>,
-    /// Those of B.
+    /// For each key of B, that of A under which it is found again, if there is one.
     pub b: Vec<Option<Found>>,
 }
 

@@ -33,7 +33,8 @@ fn sign_of(one_kind: bool, a: &[u32], b: &[u32]) -> u8
     }
 }
 
-/// The sign of a day.
+/// The sign of a day, which is in days since 1970-01-01: `=` if both have it at the same times, `x` if both have it at
+/// others, `A` or `B` if one alone has it, `.` if none has.
 pub fn day_sign<A: DaySeq, B: DaySeq>(a: &A, b: &B, day: i64) -> u8
     requires { IsDayWithin 0 day }
     ensures { result ≡ day_sign (A.sketch a.now) (B.sketch b.now) day }
@@ -55,7 +56,7 @@ fn is_marked_after(marked: bool, sign: u8) -> bool
     marked || is_mark(sign)
 }
 
-/// The day that lies `days` days after another.
+/// The day that lies `days` days after another, in days since 1970-01-01.
 pub fn day_after(first: i64, days: u8) -> i64
     requires { IsPainted first }
     ensures value { result ≡ first +ℤ pos days }
@@ -307,7 +308,7 @@ fn push_months<A: DaySeq, B: DaySeq>(
 
 // ---- times
 
-// The times of a day, those of A where it has some.
+// The times of a day, those of A if it has some.
 fn times_of_day<'a, A: DaySeq, B: DaySeq>(a: &'a A, b: &'a B, day: i64) -> &'a [u32]
     requires { IsDayWithin 0 day }
     ensures { result.now ≡ times_of_day (A.sketch a.now) (B.sketch b.now) day }
@@ -374,7 +375,7 @@ fn printed_times(times: &[u32]) -> &[u32]
     }
 }
 
-// Puts how many of so many times are left out behind the first ones.
+// Appends how many of `count` times are left out behind the first ones.
 fn push_more(out: &mut Vec<u8>, count: usize) -> Result<(), NoMemory>
     ensures { OnOk result (out.new.items ≡ out.old.items ++ more_text count) }
 {
@@ -557,9 +558,10 @@ pub fn first_painted(day: i64) -> Option<i64>
     Some(first_of_month(day))
 }
 
-/// Those of the month of a day and the two after it that have a difference, Monday first: each day by its number, and behind
-/// it `=` if it has the same times in both, `x` if it has others, `A` or `B` if one alone has it, and `.` if none has; then the
-/// usual times, unless both have dates, and the days of these months with others.
+/// The picture of a month and the two after it: those that have a difference, Monday first; each day by its number, and
+/// behind it `=` if it has the same times in both, `x` if it has others, `A` or `B` if one alone has it, and `.` if
+/// none has; then the usual times, unless both have dates, and the days of these months with others. `day` tells the
+/// first month.
 ///
 /// It is empty for a day within 1,000 of `MAX_DAY`.
 pub fn picture<A: DaySeq, B: DaySeq>(

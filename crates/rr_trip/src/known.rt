@@ -14,7 +14,7 @@ use std::collections::BTreeMap;
 /// A name of a zone in one calendar.
 #[derive(Drop)]
 pub struct NamedZone {
-    /// The name.
+    /// The name, as the calendar writes it.
     pub name: Bytes,
     /// What it means, if it means anything.
     pub offsets: Option<Offsets>,
@@ -32,9 +32,9 @@ pub struct KnownNames {
 /// From when on two zones, one of each calendar, are apart by as much as ever after.
 #[derive(Drop)]
 pub struct PairOfZones {
-    /// The name in A.
+    /// The name of the zone in A.
     pub a: Bytes,
-    /// The name in B.
+    /// The name of the zone in B.
     pub b: Bytes,
     /// From when on, and by how much.
     pub apart: Option<Apart>,
@@ -43,9 +43,9 @@ pub struct PairOfZones {
 /// What names of zones mean in both calendars, as far as they were looked up.
 #[derive(Drop)]
 pub struct KnownZones {
-    /// Those of A.
+    /// The names of zones that A states.
     pub a: KnownNames,
-    /// Those of B.
+    /// The names of zones that B states.
     pub b: KnownNames,
     /// Pairs of one of A and one of B.
     pub pairs: Vec<PairOfZones>,
@@ -93,7 +93,7 @@ fn put_index(
 }
 
 impl KnownNames {
-    /// None were looked up yet.
+    /// A store in which no name of the calendar has been looked up yet.
     pub fn new(alloc: Global) -> KnownNames
         ensures { result.zones.items ≡ [] }
     {
@@ -171,7 +171,7 @@ fn found_apart(a: &NamedZone, b: &NamedZone) -> Option<Apart>
 }
 
 impl KnownZones {
-    /// None are known yet.
+    /// A store in which no name has been looked up yet.
     pub fn new(alloc: Global) -> KnownZones
         ensures { (means_a means_b : Meaning) → AreKnown means_a means_b result }
     {

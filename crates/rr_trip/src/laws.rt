@@ -3,7 +3,7 @@ ghost use Rattle.rr_trip.specs.Laws.{AlikeIsExact, ByUidMatchesNone, EmptyHasNon
 
 use rr_model::first_refusal_is_one;
 
-/// A key that both calendars have is said to be alike exactly where both refuse it and state it in the same words.
+/// A key that both calendars have is said to be alike exactly if both refuse it and state it in the same words.
 pub fn alike_is_exact()
     ensures { AlikeIsExact }
 {
@@ -16,7 +16,7 @@ pub fn empty_has_none()
     ensures { EmptyHasNone }
 {}
 
-/// A key is said to have an occurrence of two lengths exactly where its local times are equal for ever, both calendars tell how long
+/// A key is said to have an occurrence of two lengths exactly if its local times are equal for ever, both calendars tell how long
 /// its occurrences are, and one of them has two lengths.
 pub fn length_is_exact()
     ensures { LengthIsExact }

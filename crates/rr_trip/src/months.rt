@@ -84,7 +84,8 @@ fn put_months<A: DaySeq, B: DaySeq>(
     put_month(alloc, months, a, b, third)
 }
 
-/// Those of the month of a day and the two after it that have a difference. There is none for a day within 1,000 of `MAX_DAY`.
+/// The months that have a difference, of that in which a day lies, in days since 1970-01-01, and the two after it.
+/// There is none for a day within 1,000 of `MAX_DAY`.
 pub fn months_from<A: DaySeq, B: DaySeq>(
     alloc: Global,
     a: &A,

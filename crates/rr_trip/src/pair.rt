@@ -25,7 +25,7 @@ use std::alloc::Global;
 /// What B states of a key, beside the days of A.
 #[derive(Drop)]
 pub enum Beside {
-    /// The same series as A, with the same days.
+    /// B states the same series as A, so the days are those of A.
     Same {
         /// The names of its zones.
         zones: Vec<Bytes>,
@@ -34,16 +34,16 @@ pub enum Beside {
         /// How it was read if it is at odds with RFC 5545.
         marks: Marks,
     },
-    /// Another one.
+    /// B states another series, with these days.
     Other(KeyDays),
 }
 
 /// The days of a key in both calendars.
 #[derive(Drop)]
 pub struct KeyPair {
-    /// What A states.
+    /// What A states, with its days.
     pub a: KeyDays,
-    /// What B states.
+    /// What B states, beside the days of A.
     pub b: Beside,
     /// Whether both have equal local times, otherwise the first that one of them alone has.
     pub local: Verdict,
@@ -54,11 +54,11 @@ pub struct KeyPair {
 pub enum Judged {
     /// All that is said of it: what is so of the events of one calendar alone, or a refusal.
     Told(Said),
-    /// Its days.
+    /// Its days in both calendars, of which more is to be said.
     Compared(KeyPair),
 }
 
-// The days of B.
+// The days of B: those of A if both state the same series.
 fn days_beside<'a>(a: &'a Folded, b: &'a Beside) -> &'a Folded
     ensures { result.now ≡ days_beside a.now b.now }
 {
@@ -69,14 +69,14 @@ fn days_beside<'a>(a: &'a Folded, b: &'a Beside) -> &'a Folded
 }
 
 impl KeyPair {
-    /// The days of B.
+    /// The days of B, which may be those of A.
     pub fn days_b(&self) -> &Folded
         ensures { result.now ≡ days_b self.now }
     {
         days_beside(&self.a.days, &self.b)
     }
 
-    /// The names of the zones of B.
+    /// The names of the zones in which B states the events.
     pub fn zones_b(&self) -> &[Bytes]
         ensures { result.now ≡ zones_beside self.now.b }
     {
@@ -96,7 +96,7 @@ impl KeyPair {
         }
     }
 
-    // How B was read.
+    // How B was read, if it is at odds with RFC 5545.
     fn marks_b(&self) -> Marks
         ensures { result ≡ marks_beside self.now.b }
     {
@@ -119,7 +119,7 @@ impl Judged {
     }
 }
 
-// What is kept of what B states beside the days of A. The same series has the same days, which are then not worked out again.
+// What is kept of what B states beside the days of A. If it is the same series, its days are not worked out again.
 fn kept_beside(alloc: Global, a: &KeyDays, b: KeySeries) -> Result<Beside, KeyFault>
     requires valid { IsValidSeries b.series }
     requires folded { IsFoldOf a.now.series (sketch a.now.days) }

@@ -19,7 +19,7 @@ use rr_text::{push_extended, push_unsigned, side_text};
 use rr_title::{push_escaped, push_title};
 use std::alloc::Global;
 
-/// Appends a text.
+/// Appends the bytes of a text as they stand.
 pub fn push(out: &mut Vec<u8>, text: &[u8]) -> Result<(), NoMemory>
     ensures { OnOk result (out.new.items ≡ out.old.items ++ text.now) }
 {
@@ -322,7 +322,7 @@ fn partner_of_line(partner: &Option<Partner>) -> Option<SubjectPartner<'_>>
     }
 }
 
-// The line of a key, or nothing where it is left out.
+// The line of a key, or nothing if it is left out.
 fn push_line(
     alloc: Global,
     out: &mut Vec<u8>,
@@ -347,7 +347,7 @@ fn push_line(
     Ok(())
 }
 
-// The lines of keys.
+// Appends a line for each key, but for those that are left out.
 fn push_lines(
     alloc: Global,
     out: &mut Vec<u8>,
@@ -414,7 +414,7 @@ pub fn push_file_refusal(out: &mut Vec<u8>, refusal: FileRefusal) -> Result<(), 
     }
 }
 
-/// The line that refuses a whole file.
+/// The line of a report that refuses a whole file, with its line end.
 pub fn print_refusal(alloc: Global, side: Side, refusal: FileRefusal) -> Result<Vec<u8>, NoMemory>
     ensures { IfOk result (λ text. text.items ≡ file_refusal_line side refusal) }
 {

@@ -9,7 +9,7 @@ use rr_seam::{Key, KeyRefusal, Marks};
 /// The key of events in B that have another one in A.
 #[derive(Drop)]
 pub struct Partner {
-    /// The key.
+    /// The key that they have in B.
     pub key: Key,
     /// Whether their title is another one too: they are found again by their first occurrences alone.
     pub has_other_title: bool,
@@ -44,17 +44,17 @@ pub struct Report {
 /// How many keys there are, and of how many each is said.
 #[derive(Clone, Copy)]
 pub struct Counts {
-    /// All keys.
+    /// How many keys there are in all.
     pub events: usize,
-    /// Those with equal occurrences.
+    /// Those with equal occurrences for all years to come.
     pub equal: usize,
     /// Those with an occurrence that one calendar alone has or that is of two lengths, or with a zone in one alone.
     pub differs: usize,
-    /// Those that A alone has.
+    /// Those of which A alone has events, not all of them cancelled.
     pub only_a: usize,
-    /// Those that B alone has.
+    /// Those of which B alone has events, not all of them cancelled.
     pub only_b: usize,
-    /// Those that are refused.
+    /// Those whose events one of the calendars refuses.
     pub refused: usize,
     /// Those with equal local times of which nobody can tell whether they are the same moments: they are among the equal ones.
     pub zone: usize,
@@ -64,7 +64,7 @@ pub struct Counts {
     pub matched: usize,
 }
 
-/// How a comparison ends.
+/// How a comparison ends, which becomes the exit status.
 #[derive(Clone, Copy)]
 pub enum Status {
     /// All keys are equal or alike.
@@ -233,7 +233,8 @@ impl Report {
 }
 
 impl Counts {
-    /// How a comparison with these counts ends.
+    /// How a comparison with these counts ends: `Differs` comes first, then `Refused`, also for an equal key of which
+    /// nobody can tell the moments.
     pub fn status(self) -> Status
         ensures { result ≡ status_of self }
     {

@@ -8,7 +8,7 @@ use rr_seam::KeyRefusal;
 pub enum Ahead {
     /// The series is in UTC.
     Utc,
-    /// By so many seconds, less than a day either way.
+    /// By this many seconds, less than a day either way.
     By(i32),
 }
 
@@ -35,9 +35,9 @@ pub enum Said {
     Only(Side),
     /// The events of the key in this calendar are refused.
     Refused {
-        /// The calendar.
+        /// The calendar whose events are refused.
         side: Side,
-        /// The refusal.
+        /// Why they are refused, with the event's place in its file.
         refusal: KeyRefusal,
     },
     /// Both calendars refuse the events of the key, and state them in the same words. The refusal is that of A.
@@ -50,7 +50,7 @@ pub enum Said {
     Compared {
         /// Whether they have equal occurrences, otherwise the first that one of them alone has, as its local time.
         verdict: Verdict,
-        /// How they are compared.
+        /// Whether moments or local times are compared, and what is known of the zones.
         zones: Zones,
     },
 }

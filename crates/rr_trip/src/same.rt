@@ -87,7 +87,7 @@ fn are_same_rules(a: &[Rule], b: &[Rule]) -> bool
     true
 }
 
-/// Whether two series are the same, part by part.
+/// Whether two series are the same, part by part. Two that are written in other words may have the same occurrences.
 pub fn is_same_series(a: &Series, b: &Series) -> bool
     ensures { result ≡ true → a.now ≡ b.now }
 {

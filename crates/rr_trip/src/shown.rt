@@ -30,9 +30,9 @@ use std::alloc::Global;
 /// What is said of the events of one name.
 #[derive(Drop)]
 pub struct Shown {
-    /// How it ends.
+    /// How the run ends, by what is said of these events alone.
     pub status: Status,
-    /// What is printed.
+    /// What is printed of them, whole lines.
     pub text: Vec<u8>,
     /// What is said, if a calendar has such an event.
     pub said: Option<Said>,

@@ -12,7 +12,7 @@ use rr_seam::Key;
 /// The key of events in B, if it is another one than in A.
 #[derive(Clone, Copy)]
 pub struct SubjectPartner<'a> {
-    /// The key.
+    /// The key that they have in B.
     pub key: &'a Key,
     /// Whether their title is another one too.
     pub has_other_title: bool,
@@ -21,7 +21,7 @@ pub struct SubjectPartner<'a> {
 /// What a line is of.
 #[derive(Clone, Copy)]
 pub struct LineSubject<'a> {
-    /// The key.
+    /// The key of the events, that of A if both calendars have some.
     pub key: &'a Key,
     /// The indexes of the events in A.
     pub a: &'a [usize],

@@ -1,4 +1,4 @@
--- The moment that a local time names: there is one, near by, and it repeats where the zone does.
+-- The moment that a local time names: there is one, near by, and it repeats if the zone does.
 use Rattle.std.proofs.Common.{◌≡◌, ◌↔◌, inl, inr, ℕ, ℤ, pos, neg_ℤ, ◌+ℤ◌, ◌-ℤ◌, ◌≤ℤ◌, ◌<ℤ◌, refl, sym, ap, subst, ◌∙◌, arith}
 use Rattle.std.proofs.lemmas.Int.{ints, by_lt_z}
 use Rattle.rr_model.specs.Moment.{Occurrences}

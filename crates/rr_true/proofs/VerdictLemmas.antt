@@ -22,7 +22,7 @@ use Rattle.rr_true.specs.Occurrences.{AreEqualForAll, IsFirstOf, IsPlain, Occurr
 
 -- ---- a zone with one offset
 
--- where local time is always as far ahead, it names the moment that much before
+-- if local time is always as far ahead, it names the moment that much before
 constant_moment : (o t : ℤ) → IsTrueMoment (λ v. o) t (t -ℤ o)
 constant_moment o t = inl (record {
   has = omega (arith, ints);
@@ -64,7 +64,7 @@ one_zone P Q offset same k u = (
 )
 
 module _ (P Q : Occurrences) (offset : ℤ → ℤ) (t u : ℤ) (plain : IsPlain offset t u) where
-  -- the set has the moment exactly where it has the local time
+  -- the set has the moment exactly if it has the local time
   has : P Moments t → TrueOf offset P Moments u
   has p = record { kind = refl; local = t; stands = p; moment = plain.moment }
 

@@ -4,7 +4,7 @@ use Rattle.rr_true.specs.Moments.{local_at}
 use Rattle.rr_true.specs.declared.change.Change.{Change}
 use Rattle.rr_true.specs.declared.span.Span.{Span}
 
--- so many of rising changes, the first ones, are not after a moment
+-- the first `count` of rising changes, and no others, are not after a moment
 pub record IsCountUpTo (changes : List Change) (at : ℤ) (count : ℕ) : Type 0 where
   pub within : count ≤ length changes
   pub below : (k : ℕ) (d : Change) → k < count → (slice_index_or changes k d).at ≤ℤ at

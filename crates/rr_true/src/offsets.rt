@@ -69,9 +69,9 @@ impl Offsets {
         Offsets::new(offset, Vec::new(alloc), 0, 1)
     }
 
-    /// An offset before all changes, then the changes, which repeat after so many days from the settled moment on: a change
-    /// that is not before `settled` stands for those whole cycles later too, and one that is a cycle later or more counts
-    /// for nothing.
+    /// An offset before all changes, then the changes, which repeat after `days` days from the settled moment on: a
+    /// change that is not before `settled` stands for those whole cycles later too, and one that is a cycle later or
+    /// more counts for nothing.
     pub fn new(initial: i32, changes: Vec<Change>, settled: i64, days: u32) -> Offsets
         requires { AreSoundChanges initial changes.items settled days }
         ensures { (u : ℤ) → offset_of result u ≡ offsets_of initial changes.items settled days u }
@@ -123,7 +123,8 @@ impl Offsets {
         self.span_at(moment).offset
     }
 
-    /// A moment after this one, up to which, but without it, the offset stays the same.
+    /// A moment after this one, up to which, but without it, the offset stays the same. Both are moments of UTC in
+    /// seconds since 1970-01-01T00:00:00.
     pub fn constant_until(&self, moment: i64) -> i64
         requires { IsNear moment }
         ensures later { moment <ℤ result }

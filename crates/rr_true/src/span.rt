@@ -26,7 +26,7 @@ fn count_up_to(changes: &[Change], at: i64) -> usize
     changes.partition_point(|change| change.at <= at)
 }
 
-// The offset after so many changes.
+// The offset after the first `count` changes.
 fn offset_after(initial: i32, changes: &[Change], count: usize) -> i32
     requires { count ≤ length changes.now }
     ensures none { count ≡ 0 → result ≡ initial }
@@ -39,7 +39,7 @@ fn offset_after(initial: i32, changes: &[Change], count: usize) -> i32
     }
 }
 
-// The moment of the change after so many changes, or a last moment if it is earlier.
+// The moment of the change after the first `count` changes, or a last moment if it is earlier.
 fn end_after(changes: &[Change], count: usize, last: i64) -> i64
     ensures last { result ≤ℤ last }
     ensures change { (d : Change) → count < length changes.now → result ≤ℤ (slice_index_or changes.now count d).at }

@@ -16,13 +16,13 @@ all_of p r hp hr =
     let all = lcm_is (lcm p r) 146_097 some (omega arith) in
     (lcm_some (lcm p r) 146_097 some (omega arith), dvd_trans p both.0 all.0, dvd_trans r both.1 all.0, all.0, all.1)
 
--- where both periods have no common multiple that is walked
+-- if both periods have no common multiple that is walked
 pub long_periods : (p r : ℕ) → 1 ≤ p → 1 ≤ r → NoMultipleWithin p r longest_walk → IsLong p r
 long_periods p r hp hr none =
     let all = all_of p r hp hr in
     none (lcm (lcm p r) 146_097) all.0 all.1 all.2
 
--- where they and the zones have none
+-- if they and the zones have none
 pub long_zones : (p r both zones : ℕ) → 1 ≤ p → 1 ≤ r → both ≡ lcm p r → zones ∣ 146_097 → NoMultipleWithin both zones longest_walk → IsLong p r
 long_zones p r both zones hp hr is divides none =
     let all = all_of p r hp hr in

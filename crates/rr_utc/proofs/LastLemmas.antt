@@ -23,7 +23,7 @@ use Rattle.rr_true.proofs.MomentLemmas.{set_repeats, true_is_near}
 use Rattle.rr_utc.specs.Between.{AgreeBefore, AgreeBetween}
 use Rattle.rr_utc.specs.Walks.{HasNoDayBefore, HasNoDayFrom, LastsFrom}
 
--- ---- where a series has no day, it has no moment
+-- ---- if a series has no day, it has no moment
 
 module _ (s : Sketch) (f : ℤ → ℤ) (h : IsOffset f) (v : ℤ) (r : TrueOf f (StandsIn s) Moments v) where
   no_day : times_on s (day_part Moments r.local) ≡ [] → ⊥

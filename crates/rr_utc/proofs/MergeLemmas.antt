@@ -131,7 +131,7 @@ module _ (xs ys : List ℤ) (i : ℕ) (p : IsPassed xs ys i) (lx : i < length xs
         whole_of only (behind (get_or xs i (pos 0)) (get_or ys i (pos 0)) (drop (i + 1) xs) (drop (i + 1) ys) rises_x rises_y e only h);
   }
 
--- where one ends, nothing of it is left
+-- if one ends, nothing of it is left
 one_left : (xs ys : List ℤ) (i : ℕ) → i ≡ min (length xs) (length ys) → (drop i xs ≡ []) ⊎ (drop i ys ≡ [])
 one_left xs ys i e =
     by_lt_z {P = (drop i xs ≡ []) ⊎ (drop i ys ≡ [])} (pos (length xs)) (pos (length ys)) (λ l. inl (drop_all i xs (omega (arith, ints, e, l))))

@@ -141,7 +141,7 @@ walk_decides s u f g from end day stop ed es before lasts shown found =
     decides P Q (λ k v r. r.kind) (λ k v r. r.kind) (day *ℤ pos 86_400) (stop *ℤ pos 86_400)
     (subst (λ z. AgreeBefore P Q (z *ℤ pos 86_400)) (sym ed) before) (subst (λ z. LastsFrom P Q (z *ℤ pos 86_400)) (sym es) lasts) shown found
 
--- where nothing is found the true moments are equal
+-- if nothing is found the true moments are equal
 pub walk_equal : (s u : Sketch) (f g : ℤ → ℤ) (from end day stop : ℤ) → day ≡ from → stop ≡ end
     → AgreeBefore (TrueOf f (StandsIn s)) (TrueOf g (StandsIn u)) (from *ℤ pos 86_400)
     → LastsFrom (TrueOf f (StandsIn s)) (TrueOf g (StandsIn u)) (end *ℤ pos 86_400) → (found : Option Only) (none : Bool) → is_some found ≡ not none → IsTrue none

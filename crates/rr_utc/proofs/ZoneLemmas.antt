@@ -67,7 +67,7 @@ turned f g P Q by h = record {
   second = h.first;
 }
 
--- where each local time of one set, less the constant, is one of the other, true moments are true moments
+-- if each local time of one set, less the constant, is one of the other, true moments are true moments
 module _ (f g : ℤ → ℤ) (P Q : Occurrences) (by : ℤ) (hf : IsOffset f) (hg : IsOffset g) (h : AreApartFor f g P Q by) where
   moves : (v : ℤ) (r : TrueOf f P Moments v) → Q Moments (r.local -ℤ by) → TrueOf g Q Moments v
   moves v r there = record {
@@ -102,7 +102,7 @@ one_zone_equal f g P Q hf hg h same k v = (
 
 -- ---- local times that are apart by as much
 
--- where local time is always as far ahead, a local time names the moment that much before
+-- if local time is always as far ahead, a local time names the moment that much before
 constant_moment : (f : ℤ → ℤ) (o t : ℤ) → ((v : ℤ) → f v ≡ o) → IsTrueMoment f t (t -ℤ o)
 constant_moment f o t c =
     inl (record {
@@ -149,7 +149,7 @@ stored_apart o p by fits bo bp e =
 
 -- ---- where a series begins
 
--- a series begins a day after a moment where its first day comes so late
+-- a series begins a day after a moment if its first day comes so late
 pub begins_late : (s : Sketch) (moment day : ℤ) → s.kind ≡ Moments → HasNoDayBefore s day → (moment +ℤ pos 86_400) ≤ℤ (day *ℤ pos 86_400)
     → HasNoMomentBefore (StandsIn s) (moment +ℤ pos 86_400)
 begins_late s moment day kind none l t r =
@@ -167,7 +167,7 @@ day_after moment day first e l =
     let below = second_part-below Moments moment in
     omega (arith, ints, is, below, e, l)
 
--- the same where it is seen by stored numbers
+-- the same if it is seen by stored numbers
 pub day_after_stored : (moment day first : ℤ) → FitsSigned w64 day → FitsSigned w64 first → IsNearDay first → day ≡ day_part Moments moment
     → IsTrue (int_lt (to_z w64 (of_z w64 day)) (to_z w64 (of_z w64 (to_z w64 (of_z w64 first) -ℤ pos 1))))
     → (moment +ℤ pos 86_400) ≤ℤ (first *ℤ pos 86_400)

@@ -49,7 +49,7 @@ HasNoDayBefore s day = (d : ℤ) → d <ℤ day → times_on s d ≡ []
 abbrev pub HasNoDayFrom : Sketch → ℤ → Type 0
 HasNoDayFrom s day = (d : ℤ) → day ≤ℤ d → times_on s d ≡ []
 
--- so many days are a common cycle of both periods and of the zones' rules, and not too many to be walked
+-- n days are a common cycle of both periods and of the zones' rules, and not too many to be walked
 pub record IsCommonCycle (p r zones n : ℕ) : Type 0 where
   pub some : 1 ≤ n
   pub of_first : p ∣ n

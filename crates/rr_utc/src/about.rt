@@ -16,12 +16,12 @@ pub struct Calm {
     pub end: i64,
     /// Local time less UTC in the first zone, in seconds.
     pub ahead_a: i32,
-    /// The same in the second zone.
+    /// Local time less UTC in the second zone, in seconds.
     pub ahead_b: i32,
 }
 
 impl Calm {
-    /// A stretch of no moments.
+    /// A stretch that holds no moment.
     pub fn none() -> Calm
         ensures { (f g : ℤ → ℤ) → IsCalm f g result }
     {
@@ -37,11 +37,11 @@ impl Calm {
 /// The numbers of a series' sets on the local days before, on and after a day of UTC; none for a free day.
 #[derive(Clone, Copy, PartialEq, Eq)]
 pub struct Numbers {
-    /// On the day before.
+    /// The number of the set of the local day before it, none if that is free.
     pub before: Option<u32>,
-    /// On the day itself.
+    /// The number of the set of the local day of the same date, none if that is free.
     pub on: Option<u32>,
-    /// On the day after.
+    /// The number of the set of the local day after it, none if that is free.
     pub after: Option<u32>,
 }
 
@@ -50,11 +50,11 @@ pub struct Numbers {
 pub struct About {
     /// The numbers of the first series.
     pub a: Numbers,
-    /// Those of the second.
+    /// The numbers of the second series.
     pub b: Numbers,
     /// Local time less UTC in the first zone, in seconds.
     pub ahead_a: i32,
-    /// The same in the second zone.
+    /// Local time less UTC in the second zone, in seconds.
     pub ahead_b: i32,
 }
 

@@ -84,7 +84,7 @@ fn settled_of_all(settled: i64, a: ZoneCycle, b: ZoneCycle) -> i64
     settled.max(day_past(a.settled)).max(day_past(b.settled))
 }
 
-// The day that comes two days and so many more after another.
+// The day that comes two days and `days` more after another.
 fn days_past(day: i64, days: u64) -> i64
     requires low { neg_ℤ (pos 1_000_000_001) ≤ℤ day }
     requires high { day ≤ℤ pos 1_000_000_001 }
@@ -95,9 +95,9 @@ fn days_past(day: i64, days: u64) -> i64
     day + 2 + days as i64
 }
 
-// The day of UTC at which a walk may end: what agrees before it agrees for ever. Two days past the later settled day if both
-// series end; otherwise as many past the last moment at which series and zones settle, and then a common cycle of them.
-// None if there is no such cycle that is walked.
+/// The day of UTC at which a walk may end, in days since 1970-01-01: what agrees before it agrees for ever. Two days past
+/// the later settled day if both series end; otherwise as many past the last moment at which series and zones settle, and
+/// then a common cycle of them. `None` if there is no such cycle that is walked.
 pub fn end_of_walk<A: DaySeq, B: DaySeq>(
     a: &A,
     zone_a: &Offsets,

@@ -15,7 +15,7 @@ pub struct Seen {
 }
 
 impl Seen {
-    /// Nothing is remembered.
+    /// A memory in which nothing is remembered yet.
     pub fn new() -> Seen
         ensures { (about : About) → IsSeen result about → ⊥ }
     {
@@ -24,7 +24,7 @@ impl Seen {
         }
     }
 
-    /// Whether this is seen to be remembered.
+    /// Whether this is remembered; false may come of what was, since another of its slot takes its place.
     pub fn has(&self, about: About) -> bool
         ensures { IsTrue result → IsSeen self.now about }
     {
@@ -34,7 +34,7 @@ impl Seen {
         }
     }
 
-    /// Remembers this, instead of the last of its slot.
+    /// Remembers this, instead of what its slot remembered before.
     pub fn put(&mut self, about: About)
         ensures { (other : About) → IsSeen self.new other → IsSeen self.old other ⊎ (other ≡ about) }
     {

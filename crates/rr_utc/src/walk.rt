@@ -92,7 +92,7 @@ enum Look {
     Same(i64),
 }
 
-// The day that comes so many days after another, or the end if that comes first.
+// The day that comes `days` days after another, or the end if that comes first.
 fn day_later(day: i64, days: u64, end: i64) -> i64
     requires low { neg_ℤ (pos 2_000_000_000) ≤ℤ day }
     requires high { end ≤ℤ pos 2_000_000_000 }
@@ -105,7 +105,8 @@ fn day_later(day: i64, days: u64, end: i64) -> i64
     day + days.min((end - day) as u64) as i64
 }
 
-// What the days of UTC from one on and before another show: all that have only free local days beside them, or else the first.
+// What the days of UTC from one on and before another show: all that have only free local days beside them, or the
+// first if that one has another.
 fn look_from<A: DaySeq, B: DaySeq>(
     alloc: Global,
     a: &A,
@@ -143,8 +144,9 @@ fn look_from<A: DaySeq, B: DaySeq>(
     }
 }
 
-/// The first moment that one of two series alone has on the days of UTC from one on and before another, within 2,000,000,000 days
-/// of 1970-01-01 (RFC 5545, section 3.3.5). The one error is that memory runs out.
+/// The first moment that one of two series alone has on the days of UTC from one on and before another, within
+/// 2,000,000,000 days of 1970-01-01 (RFC 5545, section 3.3.5); `None` if they have the same there. The one error is
+/// that memory runs out.
 pub fn first_difference<A: DaySeq, B: DaySeq>(
     alloc: Global,
     a: &A,

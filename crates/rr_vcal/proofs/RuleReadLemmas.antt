@@ -76,7 +76,7 @@ within_group f interval items places has_weekday = record {
   until = None;
 }
 
--- a rule that lists items, where only a rule by places has a place
+-- a rule that lists items, if only a rule by places has a place
 abbrev FitsPlace : FamilyKind → Option ℤ → Type 0
 FitsPlace family.D place = ⊥
 FitsPlace family.MP place = Unit {0}

@@ -36,7 +36,7 @@ fn as_place(day: u8) -> i8
     day as i8
 }
 
-// The items, or the start's own where none stands.
+// The items, or the start's own if none stands.
 fn filled_items(
     alloc: Global,
     family: FamilyKind,
@@ -53,7 +53,7 @@ fn filled_items(
     }
 }
 
-/// The rule beside the start: its end moment, then the start's own item where it lists none.
+/// The rule beside the start: its end moment, then the start's own item if it lists none.
 #[tactic(auto, unfolding(rr_model::specs::Vcal::Reading::vrule_beside))]
 pub(crate) fn vrule_beside(
     alloc: Global,

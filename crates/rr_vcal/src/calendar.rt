@@ -38,7 +38,8 @@ fn vseries_of(alloc: Global, event: ReadEvent<VRule>) -> Result<VSeries, NoMemor
     })
 }
 
-/// The series that the used lines of one event state; see `read`, which refuses in the same order.
+/// The series that the used lines of one event state. The offset is local time less UTC in seconds; see `read`, which
+/// refuses in the same order.
 pub fn read_scan(alloc: Global, offset: Option<i32>, scan: &Scan) -> Result<VSeries, Fault>
     ensures { Answers (vcal_scan offset scan.now) result }
 {
@@ -67,7 +68,7 @@ fn read_text(alloc: Global, offset: Option<i32>, bytes: &[u8]) -> Result<VSeries
 /// and EXRULE `TooManyParts`, then word by word `BadRule`, `BadMoment` of an end moment, `PartTwice` of a second number of events or
 /// end moment, `NumberRange`. At the end of the text `BadLine` for an open component, `NoStart`. Then
 /// line by line beside the start, of each date `MixedKinds`, of each date and end moment `UtcMoment` without an offset, and
-/// `BadMoment` where the offset leaves the years 1 to 9999. A refusal names the first physical line of the line at fault.
+/// `BadMoment` if the offset leaves the years 1 to 9999. A refusal names the first physical line of the line at fault.
 pub fn read(alloc: Global, bytes: &[u8], offset: Option<i32>) -> Result<VSeries, Fault>
     ensures answers { Answers (reads_vcal offset bytes.now) result }
     ensures valid { IfOk result IsValidVSeries }

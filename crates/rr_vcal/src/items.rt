@@ -61,7 +61,7 @@ fn with_group_place(alloc: Global, parts: VRuleParts, place: i8) -> Result<VRule
     Ok(parts)
 }
 
-// One word more in a group of places.
+// The parts with a further word in a group of places: a place, or the weekday that ends the group.
 fn with_group_word(
     alloc: Global,
     line: u64,
@@ -80,7 +80,7 @@ fn with_group_word(
     }
 }
 
-// With one item more.
+// The parts with an item put after those they have.
 fn put_item(parts: VRuleParts, item: Item) -> Result<VRuleParts, NoMemory>
     ensures { IfOk result (λ more. more ≡ put_item parts item) }
 {
@@ -97,7 +97,8 @@ fn month_of(line: u64, text: &[u8]) -> Result<u8, Refusal>
     Ok(month as u8)
 }
 
-/// One word more of the rule's list.
+/// The parts with a further word of the rule's list, or why it is refused: `BadRule` with this line if the kind has no
+/// list.
 pub(crate) fn with_list_word(
     alloc: Global,
     line: u64,

@@ -7,7 +7,7 @@ pub fn counterpart_has_members()
     ensures { CounterpartHasMembers }
 {}
 
-/// A valid rule of vCalendar 1.0 is synchronised with its start exactly where its counterpart of RFC 5545 is.
+/// A valid rule of vCalendar 1.0 is synchronised with its start exactly if its counterpart of RFC 5545 is.
 pub fn counterpart_is_synchronised()
     ensures { CounterpartIsSynchronised }
 {}

@@ -59,7 +59,7 @@ fn finish(line: u64, parts: Option<VRuleParts>) -> Result<VRuleParts, Refusal>
     }
 }
 
-// An end moment alone.
+// The end of a rule that states an end moment and no number of events.
 fn end_by_moment(until: Stamp) -> End
     ensures { result ≡ Until until.kind until.at }
 {
@@ -69,7 +69,8 @@ fn end_by_moment(until: Stamp) -> End
     }
 }
 
-// A number of events alone, 0 for no end.
+// The end of a rule that states a number of events and no end moment; 0 is for ever (vCalendar 1.0, duration of a
+// rule).
 fn end_by_count(count: u64) -> End
     ensures { result ≡ (if count == 0 then Never else Count count) }
 {
@@ -80,7 +81,7 @@ fn end_by_count(count: u64) -> End
     }
 }
 
-// Both, where the number of events is not 0: the earlier end holds.
+// Both, if the number of events is not 0: the earlier end holds.
 fn end_by_both(count: u64, until: Stamp) -> End
     ensures { result
         ≡ (if count == 0 then Until until.kind until.at else Both until.kind until.at count) }
@@ -95,7 +96,7 @@ fn end_by_both(count: u64, until: Stamp) -> End
     }
 }
 
-// The end: two events where no end stands, and none where the number of events is 0.
+// The end of a rule: two events if it states neither end, and none if the number of events is 0.
 fn end_of_words(count: Option<u64>, until: Option<Stamp>) -> End
     ensures { result ≡ end_of_words count until }
 {

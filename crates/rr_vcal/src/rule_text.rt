@@ -66,7 +66,7 @@ fn push_month_day(out: &mut Vec<u8>, day: i8) -> Result<(), NoMemory>
     push_unsigned(out, u64::from(day.unsigned_abs()))
 }
 
-// A place, where it is not the one before it.
+// Appends a place, unless it is the one before it.
 fn push_place(out: &mut Vec<u8>, before: Option<i8>, place: i8) -> Result<(), NoMemory>
     ensures { OnOk result (Appends out.old out.new (place_text before place)) }
 {

@@ -76,7 +76,8 @@ fn within_list(
     with_list_word(alloc, line, parts, text)
 }
 
-/// One word more after the head.
+/// The parts with a further word after the head: an end moment, a number of events or an item of the list. Otherwise
+/// the refusal, with this line.
 #[tactic(auto, unfolding(rr_model::specs::Vcal::Rule::with_word))]
 pub(crate) fn with_word(
     alloc: Global,

@@ -26,7 +26,7 @@ or_again true c = refl
 or_again false c = refl
 
 module _ {X : Type 0} (below : X → X → Bool) (p : X → Bool) (same : (x y : X) → below x y ≡ false → below y x ≡ false → p x ≡ p y) where
-  -- some value of the list passes exactly where the new one does or one before
+  -- some value of the list passes exactly if the new one does or one before
   pub any-with_value : (xs : List X) (v : X) → list_any p (with_value below xs v) ≡ (p v || list_any p xs)
   any-with_value [] v = refl
   any-with_value (y ∷ ys) v = by (below y v) (below v y) refl refl (any-with_value ys v)
@@ -58,7 +58,7 @@ module _ {X : Type 0} (below : X → X → Bool) (p : X → Bool) (same : (x y :
   any-with_option values None = refl
   any-with_option values (Some x) = any-with_value below p same values x
 
-  -- some value of the items' list passes exactly where one before does, or an item's value
+  -- some value of the items' list passes exactly if one before does, or an item's value
   pub any-values_of : (values : List X) (items : List Item) → list_any p (values_of below value values items)
       ≡ (list_any p values || list_any (λ item. holds_of p (value item)) items)
   any-values_of values [] = sym (or_none (list_any p values))
@@ -69,7 +69,7 @@ module _ {X : Type 0} (below : X → X → Bool) (p : X → Bool) (same : (x y :
 
 -- ---- the time of day
 
--- hours, minutes and seconds are the same exactly where the second of the day is
+-- hours, minutes and seconds are the same exactly if the second of the day is
 time_same : (s t : ℕ) → s < 86_400 → t < 86_400 → ((s / 3_600 == t / 3_600) && (s / 60 % 60 == t / 60 % 60) && (s % 60 == t % 60)) ≡ (t == s)
 time_same s t hs ht = same_truth _ (t == s) there back
   where

@@ -60,7 +60,7 @@ parts-turn false true true = refl
 parts-turn false true false = refl
 parts-turn false false holds = refl
 
--- The two tests are the same where the date parts of the counterpart hold exactly where some item does.
+-- The two tests are the same if the date parts of the counterpart hold exactly if some item does.
 pub same_choice : (rule : VRule) (kind : Kind) (start t : ℤ)
     → list_any (λ item. item_holds (day_part kind start) item (day_part kind t)) rule.items
     ≡ date_parts_hold (filled_rule (rule_of_vrule rule kind start) kind start) (day_part kind t)

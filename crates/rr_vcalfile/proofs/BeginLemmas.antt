@@ -13,7 +13,7 @@ use Rattle.rr_vcalfile.specs.Events.{has_begin}
 abbrev begins : Line → Bool
 begins line = is_named line.text (codes "BEGIN")
 
--- a text has a BEGIN exactly where the rest, from a line with this number on, has one
+-- a text has a BEGIN exactly if the rest, from a line with this number on, has one
 pub record IsUnread (text rest : List ℕ) (number : ℕ) : Type 0 where
   pub same : has_begin text ≡ list_any begins (lines_at number rest)
   pub few : number + length rest ≤ 1 + length text

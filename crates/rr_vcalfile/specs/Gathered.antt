@@ -17,7 +17,8 @@ AnswersGathered wanted (Ok first) = wanted ≡ Ok (option_map first_lines first)
 AnswersGathered wanted (Err (key_fault.Refused r)) = wanted ≡ Err r
 AnswersGathered wanted (Err key_fault.NoMemory) = ⊤
 
--- the same of an event that is there
+-- the event is the first one that is gathered, which there is, or the fault is its refusal; out of memory may come in
+-- place of each
 abbrev pub AnswersFirst : Result (Option (List Line)) KeyRefusal → Result FirstEvent KeyFault → Type 0
 AnswersFirst wanted (Ok first) = wanted ≡ Ok (Some (first_lines first))
 AnswersFirst wanted (Err (key_fault.Refused r)) = wanted ≡ Err r

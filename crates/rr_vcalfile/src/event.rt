@@ -50,7 +50,7 @@ fn key_of(alloc: Global, part: Part) -> Result<Key, NoMemory>
     key_of_lines(alloc, lines.as_slice())
 }
 
-/// The keys of events.
+/// The keys of events, in their order.
 pub(crate) fn keys_of(alloc: Global, parts: &[Part]) -> Result<Vec<Key>, NoMemory>
     ensures { IfOk result (λ keys. keys.items ≡ map key_of (map lines_in parts.now)) }
 {

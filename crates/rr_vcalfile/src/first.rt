@@ -10,7 +10,7 @@ use rr_seam::EventWords;
 /// The first event of a key, and its words if another one stands beside it.
 #[derive(Drop)]
 pub(crate) struct FirstEvent<'a> {
-    /// The event.
+    /// The event, as a part of its text.
     pub(crate) part: Part<'a>,
     /// Its words, if they were asked for.
     pub(crate) words: Option<EventWords>,

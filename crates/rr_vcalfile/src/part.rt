@@ -4,7 +4,7 @@ ghost use Rattle.std.specs.Prelude.{◌<◌, ◌+◌, ◌^◌, length};
 /// The part of a text that is an event, from its BEGIN to its END.
 #[derive(Clone, Copy)]
 pub(crate) struct Part<'a> {
-    /// Its bytes.
+    /// Its bytes, as they stand in the text.
     pub(crate) text: &'a [u8],
     /// The number of its first physical line in the whole text, from 1.
     pub(crate) first: u64,

@@ -41,7 +41,7 @@ fn series_of(alloc: Global, offset: Option<i32>, lines: LineList) -> Result<Seri
     Ok(to_series(alloc, &series)?)
 }
 
-// One zone.
+// A list with this zone alone.
 fn one_zone(alloc: Global, zone: Bytes) -> Result<Vec<Bytes>, NoMemory>
     ensures { IfOk result (λ zones. zones.items ≡ zone ∷ []) }
 {

@@ -76,7 +76,7 @@ module _ (r : Ruling) (coarse : is_whole_days r.rule.freq ≡ true) (stands : is
       stands_of cut c =
           rw at (seconds_of_day r.rule r.kind r.start coarse (get_or days k (pos 0)) from times cut (rw at at first) all_chosen c)
 
-      -- where it is not before the start
+      -- if it is not before the start
       pub on_chosen : from ≤ second → IsOnDay tree day (Some (record { day = day; times = times }))
       on_chosen late = (
         refl,

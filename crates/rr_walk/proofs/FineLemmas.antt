@@ -170,7 +170,7 @@ found_first sets tree from day to found late low none on = (
   ),
 )
 
--- the day from which on is looked is allowed, where it is the first that is
+-- the day from which on is looked is allowed, if it is the first that is
 pub fine_some : (r : Ruling) (f : Filling) → f ≡ record { rule = r.rule; start_day = day_part Moments r.start } → (day end found : ℤ) → found ≡ day
     → IsFirstAllowed f day end (Some found) → AllowsDay r day
 fine_some r f is day end found e h = ap (λ g. allows_day g day) (sym is) ∙ (rw e at h.2)

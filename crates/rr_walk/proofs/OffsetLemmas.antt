@@ -219,7 +219,7 @@ module _ (rule : Rule) (start t : ℤ) (passes : is_candidate rule Moments start
 -- ---- the chosen seconds of a day
 
 module _ (rule : Rule) (start d : ℤ) (fine : is_whole_days rule.freq ≡ false) where
-  -- a candidate is chosen exactly where its offset in its unit is
+  -- a candidate is chosen exactly if its offset in its unit is
   chosen_is_offset : (s : ℕ) → s < 86_400 → is_candidate rule Moments start (moment_at Moments d s) ≡ true
       → IsChosenOffset rule start (s % unit_seconds rule.freq) ↔ IsTrue (is_chosen rule Moments start (moment_at Moments d s))
   chosen_is_offset s low passes =

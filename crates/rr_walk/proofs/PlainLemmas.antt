@@ -48,7 +48,7 @@ module _ (rule : Rule) (kind : Kind) (start d : ℤ) (coarse : is_whole_days rul
   plain_seconds from cut first at =
       seconds_of_day rule kind start coarse d from times cut first (chosen_plain rule kind start d coarse candidate times plain set) at
 
-  -- all of them, where none is before the start
+  -- all of them, if none is before the start
   pub all_seconds : IsFirstSecond kind start d 0 → IsSetOf nat_lt times (λ s. IsTrue (stands_at tree d s))
   all_seconds l = plain_seconds 0 times l (
       set_same nat_lt (Contains times) (λ s. Contains times s × (0 ≤ s) × (s < 86_400)) times (set_itself nat_lt times set.rises)
@@ -124,7 +124,7 @@ module _ (r : Ruling) where
   both : (d : ℤ) → fits d ≡ true → allows d ≡ true → holds d ≡ true
   both d e f = rw (e, f) refl
 
-  -- where no unit is left out
+  -- if no unit is left out
   pub first_of_each : (from to end : ℤ) (found : Option ℤ) → r.rule.interval ≡ 1 → end ≡ to +ℤ pos 1 → IsFirstAllowed filling from end found
       → IsFirstCandidate r from to found
   first_of_each from to end None one e none = λ d g h. not_allowed d (none d g (omega (arith, ints, e, h)))
@@ -214,7 +214,7 @@ module _ (r : Ruling) where
   looked_all coarse from to u at l d g h =
       at.none d g h (omega (arith, ints, l, unit_mono r.rule.freq r.rule.week_start coarse d to h))
 
-  -- ---- the first occupied day, where none comes before a day
+  -- ---- the first occupied day, if none comes before a day
 
   module _ (coarse : is_whole_days r.rule.freq ≡ true) (from day to : ℤ) (late : from ≤ℤ day) (none : HasNone (chosen_of r.rule r.kind r.start) from day) where
     before_candidate : (c d : ℤ) (s : ℕ) → ((e : ℤ) → day ≤ℤ e → e <ℤ c → holds e ≡ false) → from ≤ℤ d → d <ℤ c

@@ -116,7 +116,7 @@ or_right true b c e = refl
 or_right false true c e = refl
 or_right false false c e = e
 
--- a rank is listed exactly where one of the positions is its own
+-- a rank is listed exactly if one of the positions is its own
 pub listed_is : (rule : Rule) (rank size : ℕ) → is_absent rule.by_set_pos ≡ false
     → (is_rank_listed rule rank size ≡ true) ↔ ((i : ℕ) × ((i < length rule.by_set_pos) × IsPositionOf (get_or rule.by_set_pos i (pos 0)) size rank))
 listed_is rule rank size stands =
@@ -312,7 +312,7 @@ module _ (rule : Rule) (kind : Kind) (start d : ℤ) (coarse : is_whole_days rul
         ap one holds,
       )
 
-  -- a second of the day is chosen exactly where the time parts allow it and its rank is listed
+  -- a second of the day is chosen exactly if the time parts allow it and its rank is listed
   pub chosen_is_listed : (s : ℕ) → s < seconds_of kind
       → IsTrue (is_chosen rule kind start (moment_at kind d s))
       ↔ (IsTrue (time_holds rule kind start s) × IsTrue

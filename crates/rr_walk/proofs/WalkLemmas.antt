@@ -250,7 +250,7 @@ module _ (rule : Rule) (kind : Kind) (start : ℤ) (coarse : is_whole_days rule.
       all = f.3;
     }
 
-    -- where it comes too late
+    -- if it comes too late
     pub walked_past : (u to : ℤ) (found : DayTimes) → IsWalked rule tree (day_part kind start) from u → IsFirstIn tree rule u from (Some found)
         → to <ℤ found.day → IsFirstUpTo tree from to None
     walked_past u to found w f l d s g h = (walked_found u found w f).before d s g (omega (arith, ints, h, l))

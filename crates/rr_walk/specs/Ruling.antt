@@ -47,7 +47,7 @@ ruling_of rule kind start kept = record { rule = rule; kind = kind; start = star
 abbrev pub at_moments : Ruling → Ruling
 at_moments r = record { rule = r.rule; kind = Moments; start = r.start; kept = r.kept }
 
--- a second of each candidate day, where the rule's units are days or longer
+-- a second of each candidate day, if the rule's units are days or longer
 abbrev pub IsTimeOf : Ruling → ℕ → Type 0
 IsTimeOf r second = IsCandidateTime r.rule r.kind r.start second
 
@@ -157,14 +157,14 @@ pub record IsCandidateAt (r : Ruling) (day : ℤ) (rank count : ℕ) : Type 0 wh
   pub before : rank ≡ days_before r.rule (day_part r.kind r.start) day
   pub all : count ≡ days_of_unit r.rule (day_part r.kind r.start) day
 
--- the first candidate day from `from` on and not after `to`; None where there is none
+-- the first candidate day from `from` on and not after `to`; None if there is none
 abbrev pub IsFirstCandidate : Ruling → ℤ → ℤ → Option ℤ → Type 0
 IsFirstCandidate r from to None = (d : ℤ) → from ≤ℤ d → d ≤ℤ to → day_holds r.rule (day_part r.kind r.start) d ≡ false
 IsFirstCandidate r from to (Some day) =
     (from ≤ℤ day) × (day ≤ℤ to) × (day_holds r.rule (day_part r.kind r.start) day ≡ true)
     × ((d : ℤ) → from ≤ℤ d → d <ℤ day → day_holds r.rule (day_part r.kind r.start) d ≡ false)
 
--- the first candidate day of one unit from a day on up to another, None where none is
+-- the first candidate day of one unit from a day on up to another, None if none is
 abbrev pub IsFirstCandidateIn : Ruling → ℤ → ℤ → ℤ → Option ℤ → Type 0
 IsFirstCandidateIn r unit from to None =
     (d : ℤ) → unit_number r.rule.freq r.rule.week_start Days d ≡ unit → from ≤ℤ d → d ≤ℤ to → day_holds r.rule (day_part r.kind r.start) d ≡ false

@@ -15,11 +15,11 @@ use Rattle.rr_setpos.specs.Ranks.{hour_second_allowed, is_rank_listed}
 
 -- ---- the times of one day of a unit
 
--- One of the times has the position in its unit, where n of the unit's m candidates come before these times.
+-- One of the times has the position in its unit, if n of the unit's m candidates come before these times.
 abbrev pub IsAtPosition : List ℕ → ℕ → ℕ → ℤ → ℕ → Type 0
 IsAtPosition times before size position s = (r : ℕ) × ((r < length times) × (get_or times r 0 ≡ s) × IsPositionOf position size (before + r))
 
--- the time at a position, None where none of these has it
+-- the time at a position, None if none of these has it
 abbrev pub IsTimeAt : List ℕ → ℕ → ℕ → ℤ → Option ℕ → Type 0
 IsTimeAt times before size position None = (s : ℕ) → IsAtPosition times before size position s → ⊥
 IsTimeAt times before size position (Some s) = IsAtPosition times before size position s
@@ -28,16 +28,16 @@ IsTimeAt times before size position (Some s) = IsAtPosition times before size po
 abbrev pub IsAtSome : List ℕ → ℕ → ℕ → List ℤ → ℕ → ℕ → Type 0
 IsAtSome times before size positions k s = (i : ℕ) × ((i < k) × IsAtPosition times before size (get_or positions i (pos 0)) s)
 
--- these are, in order, the times at one of all positions on the day of this rank, where each of a unit's `count` days has `times`
+-- these are, in order, the times at one of all positions on the day of this rank, if each of a unit's `count` days has `times`
 abbrev pub AreAtPositions : List ℕ → ℕ → ℕ → List ℤ → List ℕ → Type 0
 AreAtPositions times rank count positions chosen =
     IsSetOf nat_lt chosen (IsAtSome times (rank * length times) (count * length times) positions (length positions))
 
--- the position is that of a time of the day of this rank, where each of n days has m times
+-- the position is that of a time of the day of this rank, if each of n days has m times
 abbrev pub IsPositionOn : ℤ → ℕ → ℕ → ℕ → Type 0
 IsPositionOn position each count rank = (r : ℕ) × ((r < each) × IsPositionOf position (count * each) (rank * each + r))
 
--- the rank of the day on which a position is, None where it is on none
+-- the rank of the day on which a position is, None if it is on none
 abbrev pub IsDayOfPosition : ℤ → ℕ → ℕ → Option ℕ → Type 0
 IsDayOfPosition position each count None = (k : ℕ) → k < count → IsPositionOn position each count k → ⊥
 IsDayOfPosition position each count (Some rank) = (rank < count) × IsPositionOn position each count rank
@@ -50,7 +50,7 @@ HasOneOn positions k each count rank = (i : ℕ) × ((i < k) × IsPositionOn (ge
 abbrev pub HasPositionOn : List ℤ → ℕ → ℕ → ℕ → Type 0
 HasPositionOn positions each count rank = HasOneOn positions (length positions) each count rank
 
--- the first such rank from one on, None where there is none
+-- the first such rank from one on, None if there is none
 abbrev pub IsNextRank : List ℤ → ℕ → ℕ → ℕ → Option ℕ → Type 0
 IsNextRank positions each count from None = (k : ℕ) → from ≤ k → k < count → HasPositionOn positions each count k → ⊥
 IsNextRank positions each count from (Some rank) =
@@ -78,7 +78,7 @@ IsChosenOffset rule start s =
     (s < unit_seconds rule.freq) × IsTrue (offset_holds rule start s)
     × IsTrue (is_rank_listed rule (count_seconds (offset_holds rule start) s) (count_seconds (offset_holds rule start) (unit_seconds rule.freq)))
 
--- where set positions are present, the offsets are all seconds of a unit shorter than a day that they choose, in order
+-- if set positions are present, the offsets are all seconds of a unit shorter than a day that they choose, in order
 abbrev pub AreChosenOffsets : Rule → ℤ → List ℕ → Type 0
 AreChosenOffsets rule start offsets = is_absent rule.by_set_pos ≡ false → IsSetOf nat_lt offsets (IsChosenOffset rule start)
 

@@ -29,7 +29,7 @@ IsFirstSecondAfter start_day start_second day from =
 abbrev pub AreSecondsOn : Tree → ℤ → List ℕ → Type 0
 AreSecondsOn tree day times = IsSetOf nat_lt times (λ s. IsTrue (stands_at tree day s))
 
--- the first occupied day from one on and not after another, None where there is none
+-- the first occupied day from one on and not after another, None if there is none
 abbrev pub IsFirstUpTo : Tree → ℤ → ℤ → Option DayTimes → Type 0
 IsFirstUpTo tree from to None = HasNone tree from (to +ℤ pos 1)
 IsFirstUpTo tree from to (Some found) = IsFirstOccupied tree from found.day found.times × (found.day ≤ℤ to)
@@ -43,7 +43,7 @@ abbrev pub IsOnDay : Tree → ℤ → Option DayTimes → Type 0
 IsOnDay tree day None = (second : ℕ) → stands_at tree day second ≡ false
 IsOnDay tree day (Some found) = (found.day ≡ day) × (found.times ≡ [] → ⊥) × AreSecondsOn tree day found.times
 
--- the first occupied day from one on, of those that a list has, None where there is none
+-- the first occupied day from one on, of those that a list has, None if there is none
 abbrev pub IsFirstOf : Tree → List ℤ → ℤ → Option DayTimes → Type 0
 IsFirstOf tree days from None = HasNoneOf tree days from
 IsFirstOf tree days from (Some found) =
@@ -58,23 +58,23 @@ IsFirstWithTimes r days from result =
 
 -- ---- the same of days whose seconds are told by a number
 
--- the first occupied day from `from` on and not after `to`, its seconds told by a number of the table; None where there is none
+-- the first occupied day from `from` on and not after `to`, its seconds told by a number of the table; None if there is none
 abbrev pub IsFirstUpToIn : List (List ℕ) → Tree → ℤ → ℤ → Option OccupiedDay → Type 0
 IsFirstUpToIn sets tree from to None = IsFirstUpTo tree from to None
 IsFirstUpToIn sets tree from to (Some found) = IsInTable sets found × IsFirstUpTo tree from to (Some (with_set sets found))
 
--- the day with all its seconds, told by a number of the table; None where it is not occupied
+-- the day with all its seconds, told by a number of the table; None if it is not occupied
 abbrev pub IsOnDayIn : List (List ℕ) → Tree → ℤ → Option OccupiedDay → Type 0
 IsOnDayIn sets tree day None = IsOnDay tree day None
 IsOnDayIn sets tree day (Some found) = IsInTable sets found × IsOnDay tree day (Some (with_set sets found))
 
--- the first occupied day from `from` on, of those that a list has, its seconds told by a number of the table; None where there
+-- the first occupied day from `from` on, of those that a list has, its seconds told by a number of the table; None if there
 -- is none
 abbrev pub IsFirstOfIn : List (List ℕ) → Tree → List ℤ → ℤ → Option OccupiedDay → Type 0
 IsFirstOfIn sets tree days from None = IsFirstOf tree days from None
 IsFirstOfIn sets tree days from (Some found) = IsInTable sets found × IsFirstOf tree days from (Some (with_set sets found))
 
--- a day with these seconds, told by a number of the table; None where there are none
+-- a day with these seconds, told by a number of the table; None if there are none
 abbrev pub IsDayOfTimes : List (List ℕ) → ℤ → List ℕ → Option OccupiedDay → Type 0
 IsDayOfTimes sets day times None = times ≡ []
 IsDayOfTimes sets day times (Some found) = (found.day ≡ day) × (times ≡ [] → ⊥) × IsInTable sets found × ((with_set sets found).times ≡ times)
@@ -84,7 +84,7 @@ abbrev pub IsDayWith : List (List ℕ) → (ℕ → Type 0) → ℤ → Option O
 IsDayWith sets P day None = ⊥
 IsDayWith sets P day (Some found) = (found.day ≡ day) × IsInTable sets found × IsSetOf nat_lt (with_set sets found).times P
 
--- the first occupied day of a unit from a day on, None where there is none
+-- the first occupied day of a unit from a day on, None if there is none
 abbrev pub IsFirstIn : Tree → Rule → ℤ → ℤ → Option DayTimes → Type 0
 IsFirstIn tree rule unit from None = (day : ℤ) (second : ℕ) → unit_number rule.freq rule.week_start Days day ≡ unit → from ≤ℤ day
     → stands_at tree day second ≡ false
@@ -93,7 +93,7 @@ IsFirstIn tree rule unit from (Some found) =
     × AreSecondsOn tree found.day found.times
     × ((day : ℤ) (second : ℕ) → unit_number rule.freq rule.week_start Days day ≡ unit → from ≤ℤ day → day <ℤ found.day → stands_at tree day second ≡ false)
 
--- the first occupied day of a unit from a day on, its seconds as the number of a set in the table; None where there is none
+-- the first occupied day of a unit from a day on, its seconds as the number of a set in the table; None if there is none
 abbrev pub IsFirstInIn : List (List ℕ) → Tree → Rule → ℤ → ℤ → Option OccupiedDay → Type 0
 IsFirstInIn sets tree rule unit from None = IsFirstIn tree rule unit from None
 IsFirstInIn sets tree rule unit from (Some found) = IsInTable sets found × IsFirstIn tree rule unit from (Some (with_set sets found))

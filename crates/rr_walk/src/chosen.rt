@@ -49,7 +49,8 @@ pub type MonthLazy = Chosen<DayRule>;
 pub type YearLazy = Chosen<DayRule>;
 
 impl<W: RuleWalk + Drop> Chosen<W> {
-    /// The chosen moments of a rule from its start on, in years 1 to 9999. The rule's end is not asked.
+    /// The chosen moments of a rule from its start on, in years 1 to 9999. The start is in days or seconds since
+    /// 1970-01-01. The rule's end is not asked.
     pub fn new(alloc: Global, rule: &Rule, kind: Kind, start: i64) -> Result<Chosen<W>, NoMemory>
         requires valid { IsValidRule kind rule.now }
         requires freq { is_whole_days rule.now.freq ≡ W.of_whole_days }

@@ -180,7 +180,8 @@ impl DayRule {
         self.candidate_in_units(from, to)
     }
 
-    // The same of a rule whose interval leaves units out: unit by unit.
+    // The first candidate day from `from` on and not after `to`, found unit by unit: for a rule whose interval leaves
+    // units out.
     fn candidate_in_units(&mut self, from: i64, to: i64) -> Option<i64>
         requires from { IsDayWithin 0 from }
         requires to { IsDayWithin 0 to }
@@ -283,7 +284,7 @@ impl DayRule {
         Ok(number)
     }
 
-    // The first second of a day that is not before the start; 86,400 where there is none.
+    // The first second of a day that is not before the start; 86,400 if there is none.
     pub(crate) fn first_second(&self, day: i64) -> u32
         ensures { IsFirstSecond self.now.kind self.now.start day result }
     {
@@ -302,7 +303,7 @@ impl DayRule {
         unit + first_fit(unit, self.own_unit, self.rule.interval) as i64
     }
 
-    // The unit of a day. No date is computed where the unit entered last has the day, or ends with the day before.
+    // The unit of a day. No date is computed if the unit entered last has the day, or ends with the day before.
     fn unit_at(&self, day: i64) -> i64
         requires near { IsDayWithin 0 day }
         ensures { result ≡ unit_number self.now.rule.freq self.now.rule.week_start Days day }
@@ -364,7 +365,7 @@ pub(crate) fn day_of_times(
     Ok(Some(OccupiedDay { day, number, count }))
 }
 
-// The first second of a day that is not before a start, which lies on the day `start_day` at `start_second`; 86,400 where
+// The first second of a day that is not before a start, which lies on the day `start_day` at `start_second`; 86,400 if
 // there is none.
 pub(crate) fn first_second(day: i64, start_day: i64, start_second: u32) -> u32
     ensures { IsFirstSecondAfter start_day start_second day result }

@@ -220,7 +220,7 @@ impl FineRule {
         at_offsets(alloc, &fitting, unit, &self.offsets)
     }
 
-    // The first second of a day that is not before the start; 86,400 where there is none.
+    // The first second of a day that is not before the start; 86,400 if there is none.
     fn first_second(&self, day: i64) -> u32
         ensures { IsFirstSecond Moments self.now.start day result }
     {

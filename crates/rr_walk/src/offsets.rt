@@ -14,7 +14,7 @@ use rr_parts::{Time, allows_filled, seconds_of_unit, time_of, wants_minute, want
 use rr_times::TimeSet;
 use std::alloc::Global;
 
-// The seconds from a unit's begin that BYSETPOS chooses; none where it is absent.
+// The seconds from a unit's begin that BYSETPOS chooses; none if it is absent.
 pub(crate) fn chosen_offsets(alloc: Global, rule: &Rule, start: i64) -> Result<TimeSet, NoMemory>
     requires freq { is_whole_days rule.now.freq ≡ false }
     requires positions { CountUpTo 366 rule.now.by_set_pos }

@@ -81,8 +81,8 @@ impl DayRule {
         }
     }
 
-    // The first occupied one of a unit's candidate days from a day on, where each has one time: a day on which a position is has
-    // that time. None where the days have other numbers of times, and where the position lies before the start.
+    // The first occupied one of a unit's candidate days from a day on, if each has one time: a day on which a position is has
+    // that time. None if the days have other numbers of times, and if the position lies before the start.
     fn first_alone(&self, days: &[i64], from: i64) -> Option<i64>
         requires positions { is_absent self.now.rule.by_set_pos ≡ false }
         requires days { AreUnitDays self.now days.now }

@@ -16,14 +16,15 @@ use std::alloc::Global;
 /// The chosen moments of a rule from its start on.
 #[derive(Drop)]
 pub enum RuleLazy {
-    /// Of a rule in days, weeks, months or years.
+    /// Those of a rule in days, weeks, months or years.
     WholeDays(Chosen<DayRule>),
-    /// Of a rule in hours, minutes or seconds.
+    /// Those of a rule in hours, minutes or seconds.
     FineUnits(Chosen<FineRule>),
 }
 
 impl RuleLazy {
-    /// The chosen moments of a rule from its start on, in years 1 to 9999. The rule's end is not asked.
+    /// The chosen moments of a rule from its start on, in years 1 to 9999. The start is in days or seconds since
+    /// 1970-01-01. The rule's end is not asked.
     pub fn new(alloc: Global, rule: &Rule, kind: Kind, start: i64) -> Result<RuleLazy, NoMemory>
         requires valid { IsValidRule kind rule.now }
         requires in_years { IsInYears kind start }

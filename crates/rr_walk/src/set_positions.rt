@@ -9,7 +9,8 @@ use rr_setpos::rank_of;
 use rr_times::TimeSet;
 use std::alloc::Global;
 
-// Those of a day's times that the positions choose on the unit's candidate day of this rank, from 0; each day has the same times.
+// The times of a day that the positions choose on the unit's candidate day of this rank, from 0; each day has the same
+// times.
 pub(crate) fn times_at_positions(
     alloc: Global,
     times: &TimeSet,
@@ -29,7 +30,7 @@ pub(crate) fn times_at_positions(
     TimeSet::of(alloc, chosen.as_slice())
 }
 
-// The first rank, from one on, among the `count` candidate days of a unit, whose day one of the positions is on, where each
+// The first rank, from one on, among the `count` candidate days of a unit, whose day one of the positions is on, if each
 // day has `each` times.
 pub(crate) fn next_rank(
     positions: &Numbers,
@@ -68,7 +69,7 @@ fn day_of_position(position: i64, each: usize, count: usize) -> Option<usize>
     }
 }
 
-// The times of a day that are at the listed positions, where `before` candidates of the unit come before them.
+// The times of a day that are at the listed positions, if `before` candidates of the unit come before them.
 fn seconds_at_positions(
     alloc: Global,
     times: &[u32],

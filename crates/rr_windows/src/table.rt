@@ -144,7 +144,7 @@ Tonga Standard Time:Pacific/Tongatapu
 Samoa Standard Time:Pacific/Apia
 Line Islands Standard Time:Pacific/Kiritimati Etc/GMT-14";
 
-// The table.
+// The table of names of Windows zones, line by line.
 #[tactic(auto, unfolding(crate::specs::Table::table))]
 pub(crate) fn table() -> &'static str
     ensures { result.now ≡ table }

@@ -11,7 +11,7 @@ use rr_cal::date_of;
 use rr_model::{Kind, NoMemory, day_part, second_part};
 use rr_text::push_unsigned;
 
-/// The name of a month, from 1 for January.
+/// The English name of a month, from 1 for January to 12 for December.
 #[tactic(auto, unfolding(crate::specs::Dates::month_name))]
 pub fn month_name(month: u64) -> &'static [u8]
     ensures { result.now ≡ month_name month }
@@ -137,7 +137,7 @@ pub fn push_moment(out: &mut Vec<u8>, kind: Kind, at: i64) -> Result<(), NoMemor
     push_at_time(out, kind, at)
 }
 
-// The same of the years 1 to 9999.
+// Appends a date or a moment of the years 1 to 9999: `9 January 2024 at 09:30`.
 pub(crate) fn push_moment_in_years(out: &mut Vec<u8>, kind: Kind, at: i64) -> Result<(), NoMemory>
     requires { IsInYears kind at }
     ensures { OnOk result (out.new.items ≡ out.old.items ++ moment_words kind at) }

@@ -5,7 +5,7 @@ ghost use Rattle.rr_wording.specs.Numbers.{counted, numbered, ordinal, ordinal_e
 use rr_model::NoMemory;
 use rr_text::push_unsigned;
 
-// Appends a text.
+// Appends the bytes of a text as they stand.
 pub(crate) fn push(out: &mut Vec<u8>, text: &[u8]) -> Result<(), NoMemory>
     ensures { OnOk result (out.new.items ≡ out.old.items ++ text.now) }
 {

@@ -11,7 +11,7 @@ use crate::part::{Part, push_part};
 use rr_cal::{date_of, weekday};
 use rr_model::{Freq, Kind, NoMemory, Rule};
 
-// A unit.
+// The word of a frequency's unit, in the singular: `day` of DAILY.
 #[tactic(auto, unfolding(crate::specs::Rules::unit_word))]
 fn unit_word(freq: Freq) -> &'static [u8]
     ensures { result.now ≡ unit_word freq }
@@ -74,7 +74,7 @@ fn push_day_of_start(out: &mut Vec<u8>, freq: Freq, day: i64) -> Result<(), NoMe
     }
 }
 
-// How BYMONTHDAY is said.
+// In which form the days of BYMONTHDAY are said, by the parts beside them.
 #[tactic(auto, unfolding(crate::specs::Rules::month_day_part))]
 fn month_day_part(rule: &Rule) -> Part
     ensures { result ≡ month_day_part rule.now }

@@ -85,7 +85,7 @@ fn push_several(
     push_from(out, says_time(first) && all_say_time(others), kind, start)
 }
 
-// Appends a rule alone.
+// Appends a rule that stands alone: what repeats, from when on and until when.
 #[tactic(auto, unfolding(crate::specs::Words::only_words))]
 fn push_only(out: &mut Vec<u8>, kind: Kind, start: i64, rule: &Rule) -> Result<(), NoMemory>
     requires start { IsInYears kind start }

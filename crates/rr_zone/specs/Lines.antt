@@ -38,7 +38,7 @@ one_front zone End front = dates_front front
 one_front zone Exception front = dates_front front
 one_front zone Identity front = dates_front front
 
--- a line with a new value in place of its old one, and where it is another with this front
+-- a line with a new value in place of its old one, and if that is another, with this front
 abbrev pub turned_line : List ℕ → List ℕ → List ℕ → List ℕ → List ℕ
 turned_line turned front value new = (if bytes_eq new value then front else turned) ++ new
 

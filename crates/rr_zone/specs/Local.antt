@@ -79,7 +79,7 @@ local_of_parts mark parts =
 
 -- ---- the text
 
--- the text behind its byte order mark by its sections; None where its components are at fault
+-- the text behind its byte order mark by its sections; None if its components are at fault
 abbrev pub local_of_sections : List ℕ → Sections → Option (List ℕ)
 local_of_sections mark (Ok sections) = local_of_parts mark (map part_of sections)
 local_of_sections mark (Err refusal) = None
@@ -94,8 +94,8 @@ mentions_zone [] = false
 mentions_zone (b ∷ bs) = begins_zone (b ∷ bs) || mentions_zone bs
 
 -- The text with each moment of an event in the zone of its start: one of UTC beside a local start in local time, and one of another zone of the text in
--- that of the start, or in UTC. None where no event has a zone that the text defines in a component whose name VTIMEZONE is written in one piece somewhere,
--- or is in UTC beside one, and where the components of the text are at fault.
+-- that of the start, or in UTC. None if no event has a zone that the text defines in a component whose name VTIMEZONE is written in one piece somewhere,
+-- or is in UTC beside one, and if the components of the text are at fault.
 unfoldable pub local_text : List ℕ → Option (List ℕ)
 local_text bytes =
     if mentions_zone (without_mark bytes) then local_of_sections (before bytes (without_mark bytes)) (sections_of EventsAndZones 1 (without_mark bytes))

@@ -30,7 +30,7 @@ abbrev pub line_of_zone : List (List RawLine) → List ℕ → List ℕ → Opti
 line_of_zone zones text own =
     option_and_then (λ zone. utc_line (utc_moment zone) text (after_colon false (after_name text))) (zone_at zones own)
 
--- the same by its TZID, if it has one and that is not this name
+-- the line of a zone by its own TZID, if it has one and that is not this name
 abbrev pub line_of_other : List (List RawLine) → List ℕ → List ℕ → Option (List ℕ) → Option (List ℕ)
 line_of_other zones name text None = None
 line_of_other zones name text (Some own) = if bytes_eq own name then None else line_of_zone zones text own
@@ -40,12 +40,12 @@ abbrev pub in_utc : List (List RawLine) → List ℕ → Bool → List ℕ → O
 in_utc zones name is_instance text =
     if has_dates (turn_of is_instance text) then line_of_other zones name text (parameter_of (codes "TZID") text) else None
 
--- the text itself where there is no other
+-- the text itself if there is no other
 abbrev pub or_itself : List ℕ → Option (List ℕ) → List ℕ
 or_itself bytes None = bytes
 or_itself bytes (Some text) = text
 
--- a line in local time of the zone of this name; as it is where there is none, since the series is in UTC
+-- a line in local time of the zone of this name; as it is if there is none, since the series is in UTC
 abbrev pub line_in : (ℤ → LocalTime) → Option (List ℕ) → Bool → List ℕ → List ℕ
 line_in local None is_instance text = text
 line_in local (Some name) is_instance text = local_line local name is_instance text

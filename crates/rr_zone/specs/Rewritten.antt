@@ -16,15 +16,15 @@ abbrev pub blank_lines : ℕ → List ℕ
 blank_lines zero = []
 blank_lines (suc n) = codes "\n " ++ blank_lines n
 
--- a text on one physical line and so many with a blank alone
+-- a text on one physical line, and `blanks` lines with a blank alone
 abbrev pub on_lines : List ℕ → ℕ → List ℕ
 on_lines text blanks = (text ++ blank_lines blanks) ++ codes "\n"
 
--- a line's new text in place of its old one: the line's bytes where it is the same, otherwise as many physical lines as these bytes have
+-- a line's new text in place of its old one: the line's bytes if it is the same, otherwise as many physical lines as these bytes have
 abbrev pub rewritten : List ℕ → List ℕ → List ℕ → ℕ → List ℕ
 rewritten new text bytes blanks = if bytes_eq new text then bytes else on_lines new blanks
 
--- a line of an event: where it is the event's own, and not of a component within it, as this says
+-- a line of an event: if it is the event's own, and not of a component within it, as this says
 abbrev pub local_raw : (List ℕ → List ℕ) → Bool → RawLine → List ℕ
 local_raw line false raw = raw.bytes
 local_raw line true raw = rewritten (line raw.line.text) raw.line.text raw.bytes (length (physical_lines raw.bytes) - 1)

@@ -43,7 +43,7 @@ last_from found (t ∷ ts) at = last_from (if int_le t at then Some t else found
 abbrev pub last_listed : List ℤ → ℤ → Option ℤ
 last_listed onsets at = last_from None onsets at
 
--- so many of rising onsets, the first ones, are not after a moment
+-- the first `count` of rising onsets, and no others, are not after a moment
 pub record IsCountUpTo (onsets : List ℤ) (at : ℤ) (count : ℕ) : Type 0 where
   pub within : count ≤ length onsets
   pub below : (k : ℕ) → k < count → slice_index_or onsets k (pos 0) ≤ℤ at
@@ -69,7 +69,7 @@ pub record IsTableOf (end : ℤ) (o : Observance) (x : Table) : Type 0 where
   pub to : x.to ≡ o.to
   pub below : IsBelowDay o.from
 
--- the same of each observance of a zone, in order
+-- the tables are those of the observances of a zone, in order
 abbrev pub AreTablesOf : ℤ → List Observance → List Table → Type 0
 AreTablesOf end zone tables = AllZip (IsTableOf end) zone tables
 

@@ -65,7 +65,7 @@ unread_in zones events (part ∷ parts) = with_unread (unread_of zones events pa
 abbrev pub unread_of_parts : List PartLines → List UnreadZone
 unread_of_parts parts = unread_in (zones_in parts) (events_in parts) parts
 
--- those of a text by its sections; none where its components are at fault
+-- those of a text by its sections; none if its components are at fault
 abbrev pub unread_of_sections : Sections → List UnreadZone
 unread_of_sections (Ok sections) = unread_of_parts (map part_of sections)
 unread_of_sections (Err refusal) = []

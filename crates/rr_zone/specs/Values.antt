@@ -22,7 +22,7 @@ use Rattle.rr_zone.specs.declared.value.Written.TheVariants.{Kept, LeftOut, At}
 
 -- How a moment of UTC is written by its local time and by what it states. A local time that the clock shows twice names its first pass alone:
 -- an end in the second pass is that of the last second that is shown twice, since all up to it is not after the moment; no date in the second pass
--- can be left out or named. Where local times are skipped, those past the jump name moments that come before local times that were skipped; so
+-- can be left out or named. If local times are skipped, those past the jump name moments that come before local times that were skipped; so
 -- an end, a date that is left out and one that identifies an instance stay.
 abbrev pub written : Role → LocalTime → Written
 written role (Once at) = At at
@@ -101,7 +101,7 @@ utc_value moment text = option_map (join_with_byte 44) (utc_dates moment (pieces
 
 -- ---- a rule
 
--- a part of a rule: UNTIL with its moment of UTC in local time, all else as it is
+-- a part of a rule: UNTIL with its moment of UTC in local time, and any other as it is
 abbrev pub local_part_by : (ℤ → LocalTime) → List ℕ → Option (List ℕ × List ℕ) → List ℕ
 local_part_by local text None = text
 local_part_by local text (Some (name, value)) =

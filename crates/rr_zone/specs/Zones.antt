@@ -22,7 +22,7 @@ abbrev pub first_number : List Line → ℕ
 first_number [] = 0
 first_number (line ∷ lines) = line.number
 
--- the observance that a component states, or else the number of its first line
+-- the observance that a component states, or the number of its first line if it states none that is read
 abbrev pub observance_on : List Line → Result Observance ZoneFault
 observance_on lines = ok_or (observance_of lines) (Unreadable (first_number lines))
 

@@ -27,10 +27,10 @@ pub(crate) enum LocalTime {
     Skipping(i64),
 }
 
-/// An onset of an observance.
+/// A moment at which local time begins to be another one: the onset of an observance (RFC 5545, section 3.6.5).
 #[derive(Clone, Copy)]
 pub struct Onset {
-    /// The moment of UTC.
+    /// The moment of UTC, in seconds since 1970-01-01T00:00:00.
     pub at: i64,
     /// Local time less UTC before it, in seconds.
     pub from: i32,
@@ -75,10 +75,10 @@ impl Model for Clock {
 // 10000-01-01, the last day that is ever listed: no moment of the years 1 to 9999 is later in local time.
 const LAST_DAY: i64 = 2_932_897;
 
-// Ten years.
+// Ten years with three leap days among them, in days.
 const SOME_YEARS: i64 = 3_653;
 
-// A day.
+// A day, in seconds.
 const DAY_SECONDS: i32 = 86_400;
 
 // How many of some onsets are not after a moment.
@@ -144,7 +144,7 @@ fn last_of_all(tables: &[Table], at: i64) -> Option<Onset>
     last
 }
 
-/// The first onset of all observances.
+/// The first onset of all observances that are listed; `None` if there is none.
 pub fn first_of_all(tables: &[Table]) -> Option<Onset>
     ensures { result ≡ first_of None tables.now }
 {
@@ -297,7 +297,7 @@ fn days_since(first: Option<Onset>, day: i64) -> i64
     day - begun
 }
 
-// This day, or the last that is ever listed.
+// The day, or the last that is ever listed if that comes first.
 fn up_to_last(day: i64) -> i64
     requires { first_day_of_year (pos 1) ≤ℤ day }
     ensures last { IsLastDay result }
@@ -334,7 +334,7 @@ impl Clock {
         })
     }
 
-    // The first onset.
+    // The first onset of the zone, if it has one.
     fn first(&self) -> Option<Onset>
         ensures { result ≡ first_of_zone None self.now }
     {

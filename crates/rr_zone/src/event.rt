@@ -13,7 +13,7 @@ use std::alloc::Global;
 /// In which zone a start is stated.
 #[derive(Drop)]
 pub(crate) enum Start {
-    /// In UTC.
+    /// In UTC: its DTSTART ends in `Z`.
     Utc,
     /// In local time of the zone that its TZID parameter names.
     Zoned(Bytes),
@@ -24,9 +24,9 @@ pub(crate) enum Start {
 /// What an event states of its zone.
 #[derive(Drop)]
 pub(crate) struct EventFacts {
-    /// Its UID, empty where it has none.
+    /// Its UID, empty if it has none.
     pub(crate) uid: Bytes,
-    /// Its DTSTART.
+    /// In which zone its DTSTART is stated.
     pub(crate) start: Start,
     /// Whether it has a RECURRENCE-ID.
     pub(crate) is_instance: bool,

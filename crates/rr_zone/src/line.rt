@@ -21,13 +21,13 @@ use std::alloc::Global;
 /// Which moments of UTC are turned in a line.
 #[derive(Clone, Copy)]
 pub(crate) enum Turn {
-    /// UNTIL of a rule.
+    /// The UNTIL of a rule: that of RRULE or EXRULE.
     OfRule,
-    /// Dates between commas.
+    /// Each date of a list between commas, as RDATE and EXDATE have it.
     OfDates(Role),
-    /// One moment.
+    /// The one moment that is the value.
     OfOne(Role),
-    /// None.
+    /// None: the line stays as it is.
     Nothing,
 }
 

@@ -143,7 +143,7 @@ fn table_of(alloc: Global, observance: &Observance, last: i64) -> Result<Table, 
     })
 }
 
-/// The onsets of a zone, observance by observance, up to a day.
+/// The onsets of a zone, observance by observance, up to a day in days since 1970-01-01.
 pub fn tables_of(alloc: Global, zone: &[Observance], last: i64) -> Result<Vec<Table>, NoMemory>
     requires sound { All IsSoundObservance zone.now }
     requires last { IsLastDay last }

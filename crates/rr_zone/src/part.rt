@@ -18,22 +18,22 @@ use std::alloc::Global;
 pub(crate) enum Content {
     /// An event, and what it states of its zone.
     Event(EventFacts),
-    /// A time zone.
+    /// A VTIMEZONE component, with its observances.
     Zone,
-    /// What stands between these.
+    /// What stands between events and time zones, as it is.
     Other,
 }
 
 /// A part of a text.
 #[derive(Drop)]
 pub(crate) struct Part<'a> {
-    /// What it is.
+    /// What it is: an event, a time zone, or neither.
     pub(crate) content: Content,
-    /// Its bytes.
+    /// Its bytes, and the number of its first physical line.
     pub(crate) piece: Piece<'a>,
 }
 
-// The value of a line, the empty text where it has none.
+// The value of a line, the empty text if it has none.
 fn value_or_empty(line: &Line) -> &[u8]
     ensures { result.now ≡ value_or_empty (value_of_line line.now.text) }
 {
@@ -63,7 +63,7 @@ fn component_content(alloc: Global, piece: Piece) -> Result<Content, NoMemory>
     Ok(Content::Event(event_facts(alloc, lines.as_slice())?))
 }
 
-// What a segment is.
+// What a segment is: an event, a time zone, or neither.
 fn content_of(alloc: Global, segment: Segment) -> Result<Content, NoMemory>
     requires { IsNumbered segment.piece }
     ensures { IfOk result (λ x. x ≡ content_of segment.entry.is_component (raw_lines_in segment.entry.piece)) }

@@ -29,7 +29,7 @@ fn push_blank_lines(out: &mut Vec<u8>, count: u64) -> Result<(), NoMemory>
     Ok(())
 }
 
-// A text on one physical line, continued by so many with a blank alone.
+// Appends a text on one physical line, and `blanks` lines that continue it with a blank alone.
 fn push_on_lines(out: &mut Vec<u8>, text: &[u8], blanks: u64) -> Result<(), NoMemory>
     ensures { OnOk result (Appends out.old out.new (on_lines text.now blanks)) }
 {

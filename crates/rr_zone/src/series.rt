@@ -14,7 +14,7 @@ use std::collections::BTreeMap;
 /// The start of the first series of each UID.
 pub(crate) type SeriesStarts<'a> = BTreeMap<&'a [u8], &'a Start>;
 
-// Takes in one event more, if it is the first series of its UID.
+// Takes in a further event, if it is the first series of its UID.
 fn note<'a>(starts: &mut SeriesStarts<'a>, event: &'a EventFacts) -> Result<(), NoMemory>
     ensures { OnOk result (Notes starts.old event.now starts.new) }
 {
@@ -28,7 +28,7 @@ fn note<'a>(starts: &mut SeriesStarts<'a>, event: &'a EventFacts) -> Result<(), 
     }
 }
 
-// Takes in one part more, if it is an event.
+// Takes in a further part, if it is an event.
 fn note_part<'a>(starts: &mut SeriesStarts<'a>, part: &'a Part) -> Result<(), NoMemory>
     ensures { OnOk result (NotesPart starts.old part.now.content starts.new) }
 {

@@ -23,7 +23,7 @@ use std::alloc::Global;
 /// A zone that an event needs and that can't be read.
 #[derive(Drop)]
 pub struct UnreadZone {
-    /// Its name, the TZID.
+    /// The name by which the event asks for it, its TZID.
     pub name: Bytes,
     /// Why it can't be read.
     pub fault: ZoneFault,
@@ -136,7 +136,7 @@ fn unread_of<'a>(
     }
 }
 
-// One more, if there is one.
+// Puts a zone at the end, if there is one.
 fn put(found: &mut Vec<UnreadZone>, unread: Option<UnreadZone>) -> Result<(), NoMemory>
     ensures { OnOk result (found.new.items ≡ found.old.items ++ with_unread unread []) }
 {
@@ -176,7 +176,7 @@ fn unread_of_parts(alloc: Global, parts: &[Part]) -> Result<Vec<UnreadZone>, NoM
     unread_in(alloc, &mut clocks, &series, parts)
 }
 
-// The same by the segments of a text.
+// The zones that events need and that can't be read, by the segments of a text.
 fn unread_of_segments(alloc: Global, segments: &[Segment]) -> Result<Vec<UnreadZone>, NoMemory>
     requires { All (λ segment. IsNumbered segment.piece) segments.now }
     ensures { IfOk result (λ found. found.items ≡ unread_of_parts (map part_of (map section_in segments.now))) }

@@ -21,28 +21,28 @@ use std::alloc::Global;
 /// What a moment states in a line of an event.
 #[derive(Clone, Copy)]
 pub(crate) enum Role {
-    /// UNTIL of a rule.
+    /// The UNTIL of a rule.
     End,
-    /// A date of EXDATE.
+    /// A date of EXDATE, which is taken out.
     Exception,
     /// A date of RDATE, or the start of an instance.
     Date,
-    /// RECURRENCE-ID.
+    /// The value of RECURRENCE-ID, which names an occurrence.
     Identity,
 }
 
 /// How a date value is written.
 #[derive(Clone, Copy)]
 pub(crate) enum Written {
-    /// As it stands.
+    /// As it stands in the text.
     Kept,
-    /// Not at all.
+    /// Not at all: it is left out of its list.
     LeftOut,
     /// As this moment of local time, in seconds since 1970-01-01T00:00:00.
     At(i64),
 }
 
-// As a moment of local time that is later by so many seconds, if that is one of the years 1 to 9999.
+// A date value as a moment of local time that is `later` seconds later, if that is one of the years 1 to 9999.
 fn written_at(at: i64, later: i32) -> Written
     ensures value { result ≡ in_years (Written.At (at +ℤ later)) }
     ensures years { IsWritable result }
@@ -138,7 +138,7 @@ fn push_text(out: &mut Vec<u8>, text: &[u8], written: Written) -> Result<(), NoM
     }
 }
 
-/// A date value: a moment of UTC in local time, all else as it is.
+/// Appends a date value: a moment of UTC in local time, and any other as it is.
 pub(crate) fn push_moment(
     alloc: Global,
     out: &mut Vec<u8>,
@@ -166,7 +166,7 @@ fn push_behind_comma(out: &mut Vec<u8>, text: &[u8], written: Written) -> Result
     push_text(out, text, written)
 }
 
-// One date value behind a comma, if it is not left out.
+// Appends a date value behind a comma, if it is not left out.
 fn push_date(
     alloc: Global,
     out: &mut Vec<u8>,
@@ -234,7 +234,7 @@ fn utc_written(alloc: Global, clock: &mut Clock, text: &[u8]) -> Result<Option<W
     }
 }
 
-// A moment of UTC.
+// Appends a moment of UTC in the basic form, with its `Z`.
 fn push_utc(out: &mut Vec<u8>, at: i64) -> Result<(), NoMemory>
     requires { IsInYears Moments at }
     ensures { OnOk result (Appends out.old out.new (basic_text Moments at ++ codes "Z")) }
@@ -300,7 +300,7 @@ pub(crate) fn push_utc_value(
     push_utc_date(alloc, out, clock, rest)
 }
 
-// UNTIL in local time.
+// Appends UNTIL with its value in local time.
 fn push_until(
     alloc: Global,
     out: &mut Vec<u8>,
@@ -317,7 +317,7 @@ fn push_until(
     push_moment(alloc, out, clock, Role::End, value)
 }
 
-// A part of a rule: UNTIL in local time, all else as it is.
+// Appends a part of a rule: UNTIL in local time, and any other as it is.
 fn push_part(
     alloc: Global,
     out: &mut Vec<u8>,

@@ -46,7 +46,7 @@ impl Model for Zone {
 }
 
 impl Zone {
-    /// No observance.
+    /// A zone without observances, for those that a component states.
     pub(crate) fn new(alloc: Global) -> Zone
         ensures { result ≡ [] }
     {
@@ -55,7 +55,7 @@ impl Zone {
         }
     }
 
-    // One observance more.
+    // Puts an observance behind those that the zone has.
     fn put(&mut self, observance: Observance) -> Result<(), NoMemory>
         requires { IsSoundObservance observance }
         ensures { OnOk result (self.new ≡ self.old ++ observance ∷ []) }
@@ -83,7 +83,7 @@ fn first_number(lines: &[Line]) -> u64
     }
 }
 
-// The observance that a component states, or else the number of its first line.
+// The observance that a component states, or the number of its first line if it states none that is read.
 fn observance_on(alloc: Global, piece: Piece) -> Result<Result<Observance, ZoneFault>, NoMemory>
     requires { IsNumbered piece }
     ensures value { IfOk result (λ read. read ≡ observance_on (lines_of (raw_lines_in piece.entry))) }
@@ -215,7 +215,8 @@ fn all_named<'a>(
     Ok(named)
 }
 
-/// The zone of this name among the VTIMEZONEs of a text: the one of this name, or several whose texts are the same line by line.
+/// The zone of this name among the VTIMEZONEs of a text: the one of this name, or several whose texts are the same line
+/// by line. `Undefined` comes if none has it, `Differs` if their texts do, and `Unreadable` as `ZoneFault` says.
 pub fn zone_in(
     alloc: Global,
     zones: &[Piece],

@@ -8,7 +8,7 @@ use Rattle.rr_word.proofs.OneLeastLemmas.{one_first}
 use Rattle.rr_algebra.specs.Found.{IsReadDay}
 use Rattle.rr_algebra.proofs.read.has_read_days.Goals as goal
 
--- each first day may be read exactly where the one that is found may
+-- each first day may be read exactly if the one that is found may
 first_read : (w : Sketch) (first : Option ℤ) → IsFirstDay w first
     → (IfSome first IsReadDay → (d : ℤ) → IsFirstDay w (Some d) → IsReadDay d) × (((d : ℤ) → IsFirstDay w (Some d) → IsReadDay d) → IfSome first IsReadDay)
 first_read w None f = (λ h d g. absurd (g.0 (f d)), λ h. tt)

@@ -84,7 +84,7 @@ day_of_nth-requires-clause-high c =
     let s = span c in
     rw (c.day_cycle-cycle.ensures.value, s.to) s.high
 
--- ---- where the number lies that many cycles before
+-- ---- if the number lies that many cycles before
 
 on_day : (c : In-On) → let days = (c.args.left - 1) / c.args.each * rule_cycle c.args.rule.now in
     (c.in-On.day ≤ℤ (day_part c.args.kind c.args.start +ℤ (pos 16_777_216 -ℤ pos days)))

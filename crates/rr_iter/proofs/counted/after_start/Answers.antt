@@ -76,9 +76,9 @@ day_of_nth-requires-clause-high c =
     let s = span c in
     rw s.to (omega (arith, ints, s.high, s.within))
 
--- ---- where the number lies beyond it
+-- ---- if the number lies beyond it
 
--- as many occurrences come up to one day as up to the other, where both lie the same number of days after the first
+-- as many occurrences come up to one day as up to the other, if both lie the same number of days after the first
 same_days : (tree : Tree) (first : ℤ) (days whole : ℕ) → days ≡ whole
     → before_day tree ((first +ℤ pos days) +ℤ pos 1) ≡ before_day tree ((first +ℤ pos whole) +ℤ pos 1)
 same_days tree first days whole e = ap (λ n. before_day tree ((first +ℤ pos n) +ℤ pos 1)) e
@@ -155,7 +155,7 @@ returns-in-Ok-clause-day c =
     let same : to_z w64 (of_z w64 c.in-Ok.day) ≡ c.in-Ok.day = omega (arith, ints, low, place.0, s.high) in
     rw same place
 
--- ---- where it lies up to it
+-- ---- if it lies up to it
 
 pub returns-in-On-clause-day : goal.returns-in-On-clause-day
 returns-in-On-clause-day c =

@@ -26,7 +26,7 @@ enter_year_of-requires-clause-near c =
     passed_near (own b) c.args.from c.args.end (to_z w64 c.loop-day.day-bits) c.requires.from c.requires.end (known b).1
     (omega (arith, ints, c.loop-day-test.true, to_z-of_z c.ranges.end))
 
--- the walk where the year has no allowed day
+-- the walk if the year has no allowed day
 module _ (c : goal.After-day-1) where
   abbrev b : At-loop-day
   b = c.before.before.before.before.before.before.before

@@ -14,7 +14,7 @@ use Rattle.rr_lazy.proofs.except.ExceptLazy.next.Goals as goal
 pub next_of_both-requires-clause-known : goal.next_of_both-requires-clause-known
 next_of_both-requires-clause-known g c = (c.args.self.now.position, c.args.self.now.begun, c.requires.knows.2)
 
--- ---- where nothing is given
+-- ---- if nothing is given
 
 record Nothing (g : Over) (c : After-position_past-self g) : Type 0 where
   past : IsPast c.args.self.now.position c.args.to c.position_past-self.result
@@ -53,7 +53,7 @@ returns-in-None-clause-next g c =
     let n = nothing g (goal.at.returns-in-None-clause-next g c).After-position_past-self in
     rw n.past.new (n.none, n.past.kept, n.past.past, n.past.one)
 
--- ---- where a day is given
+-- ---- if a day is given
 
 record Found (g : Over) (c : After-struct_told-1 g) : Type 0 where
   next : IsNextIn c.next_of_both.new.sets (except (g.A.Lazy.tree c.args.self.now.a.lazy) (g.B.Lazy.tree c.args.self.now.b.lazy)) c.args.self.now.position

@@ -39,7 +39,7 @@ none g c sets =
 after_to : (g : Over) (c : After-deref g) → to_z w64 (of_z w64 (to_z w64 (of_z w64 c.args.to) +ℤ pos 1)) ≡ c.args.to +ℤ pos 1
 after_to g c = omega (arith, ints, to_z-of_z c.ranges.to, c.requires.low, c.requires.high)
 
--- ---- where no part has a day up to the last one
+-- ---- if no part has a day up to the last one
 
 record Passed (g : Over) (c : After-position_past-self g) : Type 0 where
   new : to_z w64 (of_z w64 c.position_past-self.result) ≡ c.position_past-self.result
@@ -85,7 +85,7 @@ returns-then-day-to-clause-next g c =
     let p = passed g (goal.at.returns-then-day-to-clause-next g c).After-position_past-self in
     rw (p.new, sym c.in_ok-ask_all.ensures.tree) (p.nothing, p.kept, rw (to_z-of_z c.ranges.to) at c.position_past-self.ensures.past, p.one)
 
--- ---- where some part has one
+-- ---- if some part has one
 
 record Found (g : Over) (c : After-deref-2 g) : Type 0 where
   same : to_z w64 (of_z w64 c.first_of_all-day.result) ≡ c.first_of_all-day.result

@@ -20,7 +20,7 @@ same_next sets t t' u u' from from' to new new' result e f g h x =
     subst (λ y. IsNextIn sets (union t' u') from' to result y) h (subst (λ y. IsNextIn sets (union t' u') y to result new) g
     (subst (λ y. IsNextIn sets (union t' y) from to result new) f (subst (λ y. IsNextIn sets (union y u) from to result new) e x)))
 
--- ---- where no part has a day up to the last one
+-- ---- if no part has a day up to the last one
 
 record Nothing (g : Over) (c : After-position_past-self g) : Type 0 where
   past : IsPast c.fill_both.new.self.position c.args.to c.position_past-self.result
@@ -59,7 +59,7 @@ returns-in-None-clause-next g c =
     let e = c.fill_both.ensures in
     rw (n.past.new, sym e.tree_a, sym e.tree_b, sym e.position) (n.none, n.past.kept, n.past.past, n.past.one)
 
--- ---- where one has
+-- ---- if one has
 
 record Given (g : Over) (c : After-on_day-arg-in-Some-2-1 g) : Type 0 where
   first : (sets : List (List ℕ))

@@ -28,7 +28,7 @@ returns-then-self-clause-next g c =
     let after : day_part s.kind s.at <ℤ s.position = omega (arith, ints, c.if-self.true, s.of_day) in
     rw p.new ((λ d x l h. none_after (g.A.Lazy.tree s.lazy) s.kind s.at d x (omega (arith, ints, l, after))), p.kept, p.past, p.one)
 
--- ---- where the part is asked, up to the lesser of two days
+-- ---- if the part is asked, up to the lesser of two days
 
 record Bound (g : Over) (c : After-min g) : Type 0 where
   together : g.A.Lazy.position c.args.self.now.lazy ≡ c.args.self.now.position
@@ -51,9 +51,9 @@ next-requires-clause-low g c =
     let fits : FitsSigned w64 s.last_day = search rules in
     omega (arith, ints, clamps, c.min.ensures.value, to_z-of_z fits, to_z-of_z c.ranges.to, c.requires.low, s.begun, first_day_is, c.if-self.false)
 
--- ---- where it has no day
+-- ---- if it has no day
 
--- what holds where nothing is given up to a day
+-- what holds if nothing is given up to a day
 record Nothing (tree : Tree) (kind : Kind) (at position to new own : ℤ) : Type 0 where
   past : IsPast position to new
   none : HasNone (upto tree kind at) position new
@@ -89,7 +89,7 @@ returns-in-None-clause-next g c =
     let n = nothing g (goal.at.returns-in-None-clause-next g c).After-position_past-self-in-None in
     rw n.past.new (n.none, n.past.kept, n.past.past, n.past.one)
 
--- ---- where it has one
+-- ---- if it has one
 
 record Given (g : Over) (c : After-count_to-arg-in-Some-1 g) : Type 0 where
   next : IsNextIn c.next.new.sets (g.A.Lazy.tree c.args.self.now.lazy) (g.A.Lazy.position c.args.self.now.lazy) c.min.result
@@ -112,7 +112,7 @@ count_to-requires-clause-of_day g c =
     seconds_of_occupied (g.A.Lazy.tree c.args.self.now.lazy) (g.A.Lazy.position c.args.self.now.lazy) c.in-Some.found.day
     (with_set c.next.new.sets c.in-Some.found).times (given g c).next.1.0
 
--- ---- where nothing is kept of that day
+-- ---- if nothing is kept of that day
 
 emptied : (g : Over) (c : After-position_past-self-then-found-eq0 g) → Nothing (g.A.Lazy.tree c.args.self.now.lazy) c.args.self.now.kind c.args.self.now.at
     c.args.self.now.position c.args.to c.position_past-self-then-found-eq0.result (g.A.Lazy.position c.next.new.self)
@@ -152,7 +152,7 @@ returns-then-found-eq0-clause-next g c =
     let e = emptied g (goal.at.returns-then-found-eq0-clause-next g c).After-position_past-self-then-found-eq0 in
     rw e.past.new (e.none, e.past.kept, e.past.past, e.past.one)
 
--- ---- where something is
+-- ---- if something is
 
 record Kept (g : Over) (c : After-struct_told-1 g) : Type 0 where
   few : c.count_to.result ≤ length (get_or c.next.new.sets c.in-Some.found.number.index [])

@@ -13,7 +13,7 @@ use Rattle.rr_lazy.proofs.without.WithoutLazy.next.Goals as goal
 pub next_left-requires-clause-known : goal.next_left-requires-clause-known
 next_left-requires-clause-known g c = rw (c.as_slice-dates.ensures.value) (c.args.self.now.position, c.requires.knows.1)
 
--- ---- where nothing is given
+-- ---- if nothing is given
 
 record Nothing (g : Over) (c : After-position_past-self g) : Type 0 where
   past : IsPast c.args.self.now.position c.args.to c.position_past-self.result
@@ -46,7 +46,7 @@ returns-in-None-clause-next g c =
     let n = nothing g (goal.at.returns-in-None-clause-next g c).After-position_past-self in
     rw n.past.new (n.none, n.past.kept, n.past.past, n.past.one)
 
--- ---- where a day is given
+-- ---- if a day is given
 
 record Found (g : Over) (c : After-struct_told-1 g) : Type 0 where
   next : IsNextIn c.next_left.new.sets (without (g.A.Lazy.tree c.args.self.now.part.lazy) c.args.self.now.kind c.args.self.now.dates)
