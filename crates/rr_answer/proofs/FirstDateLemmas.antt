@@ -15,10 +15,11 @@ use Rattle.rr_model.specs.Moment.Years.{HasFourDigitYear, IsFromYearOne, IsInYea
 use Rattle.rr_model.specs.Series.FirstRefusal.{Limits}
 use Rattle.rr_model.specs.Series.Occurrences.{Occurs}
 use Rattle.rr_model.specs.Series.Validity.{IsValidSeries}
-use Rattle.rr_model.specs.Text.Calendars.{calendar_text, reads_calendar}
+use Rattle.rr_rule_parts.specs.Calendars.{calendar_text, reads_calendar}
 use Rattle.rr_model.specs.Text.ExtendedMoments.{extended, extended_date_of, extended_moment_of, extended_time_of, plain_extended}
 use Rattle.rr_model.specs.Text.Lines.{physical_lines, without_mark}
-use Rattle.rr_model.specs.Text.Lists.{empty_list, list_text, reads_list, series_of_list, with_list_line, with_list_lines, with_list_value, with_next, with_trimmed}
+use Rattle.rr_model.specs.Text.Lists.{series_of_list}
+use Rattle.rr_ical.specs.Lists.{empty_list, list_text, reads_list, with_list_line, with_list_lines, with_list_value, with_next, with_trimmed}
 use Rattle.rr_model.specs.Text.Moments.{date_stamp, is_letter_t, moment_of, moment_stamp}
 use Rattle.rr_model.specs.Text.RuleValues.{◌>>=◌}
 use Rattle.rr_model.specs.Text.UsedLines.{trim}
@@ -32,7 +33,7 @@ use Rattle.rr_model.specs.declared.graph.Repeat.TheVariants as repeat
 use Rattle.rr_model.specs.declared.kind.Kind.{Kind}
 use Rattle.rr_model.specs.declared.kind.Kind.TheVariants.{Days, Moments}
 use Rattle.rr_model.specs.declared.limits.TheConstants.{MAX_DATES}
-use Rattle.rr_model.specs.declared.listed.ListedDates.{ListedDates}
+use Rattle.rr_ical.specs.declared.listed.ListedDates.{ListedDates}
 use Rattle.rr_model.specs.declared.refusal.Refusal.{Refusal}
 use Rattle.rr_model.specs.declared.refusal.Refusal.TheVariants.{BadMoment, MixedKinds, NotRising, NotText, TooManyParts}
 use Rattle.rr_model.specs.declared.rule.Series.{Series}

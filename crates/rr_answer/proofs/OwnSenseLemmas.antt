@@ -7,8 +7,8 @@ use Rattle.rr_model.specs.Graph.Reading.{reads_graph}
 use Rattle.rr_model.specs.Moment.{Occurrences}
 use Rattle.rr_model.specs.Series.Occurrences.{Occurs}
 use Rattle.rr_model.specs.Sets.Verdict.{HaveEqualOccurrences}
-use Rattle.rr_model.specs.Text.Calendars.{reads_calendar}
-use Rattle.rr_model.specs.Text.Lists.{reads_list}
+use Rattle.rr_rule_parts.specs.Calendars.{reads_calendar}
+use Rattle.rr_ical.specs.Lists.{reads_list}
 use Rattle.rr_model.specs.Text.RuleValues.{◌>>=◌}
 use Rattle.rr_model.specs.Vcal.Counterpart.{series_of_vseries}
 use Rattle.rr_model.specs.Vcal.Members.{OccursInVseries}

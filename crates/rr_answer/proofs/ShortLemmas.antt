@@ -6,8 +6,8 @@ use Rattle.rr_fold.specs.Judged.{all_limits}
 use Rattle.rr_model.specs.Series.Cycle.{series_cycle}
 use Rattle.rr_model.specs.Series.FirstRefusal.{IsLimitRefusal, IsRefusalOr}
 use Rattle.rr_model.specs.Series.Soundness.{first_refusal}
-use Rattle.rr_model.specs.Text.Calendars.{reads_calendar}
-use Rattle.rr_model.specs.Text.Lists.{reads_list}
+use Rattle.rr_rule_parts.specs.Calendars.{reads_calendar}
+use Rattle.rr_ical.specs.Lists.{reads_list}
 use Rattle.rr_model.specs.declared.limits.TheConstants.{MAX_CYCLE_DAYS}
 use Rattle.rr_model.specs.declared.refusal.Refusal.{Refusal}
 use Rattle.rr_model.specs.declared.rule.Series.{Series}

@@ -12,9 +12,9 @@ use Rattle.rr_model.specs.Moment.{Occurrences}
 use Rattle.rr_model.specs.Series.Occurrences.{Occurs}
 use Rattle.rr_model.specs.Sets.Sketch.{StandsIn}
 use Rattle.rr_model.specs.Sets.Verdict.{HaveEqualOccurrences}
-use Rattle.rr_model.specs.Text.Calendars.{reads_calendar}
+use Rattle.rr_rule_parts.specs.Calendars.{reads_calendar}
 use Rattle.rr_model.specs.Text.Lines.{without_mark}
-use Rattle.rr_model.specs.Text.Lists.{reads_list}
+use Rattle.rr_ical.specs.Lists.{reads_list}
 use Rattle.rr_model.specs.Vcal.Members.{OccursInVseries}
 use Rattle.rr_model.specs.Vcal.Reading.{reads_vcal}
 use Rattle.rr_model.specs.declared.graph.GraphEvent.{GraphEvent}

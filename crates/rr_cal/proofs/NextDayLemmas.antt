@@ -59,7 +59,7 @@ module _ (d : ℤ) where
       HasDateOf-day_number (d +ℤ pos 1) (y +ℤ pos 1) 1 1 (IsDate-january_1 (y +ℤ pos 1))
       (omega (arith, ints, new_year, long, place, day_number_is y 12 k h.2, h.2))
 
-  -- where it lies in the same year
+  -- if it lies in the same year
   pub day_of_year-next : year_of (d +ℤ pos 1) ≡ year_of d → day_of_year (d +ℤ pos 1) ≡ day_of_year d + 1
   unfolding day_of_year
   day_of_year-next same =

@@ -66,7 +66,7 @@ module _ (d n : ℤ) where
 
 -- ---- days, and the moments of days
 
--- a moment lies on days from one on and up to another where it lies between their first moments
+-- a moment lies on days from one on and up to another if it lies between their first moments
 on_days : (kind : Kind) (t a b : ℤ) → ((a ≤ℤ day_part kind t) × (day_part kind t <ℤ b)) ↔ ((moment_at kind a 0 ≤ℤ t) × (t <ℤ moment_at kind b 0))
 on_days Days t a b = (λ h. h, λ h. h)
 on_days Moments t a b =

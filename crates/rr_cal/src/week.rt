@@ -34,7 +34,7 @@ pub fn week_index(day: i64, week_start: u8) -> i64
     (day + 3 - i64::from(week_start)).div_euclid(7)
 }
 
-/// The week in which a day lies, where weeks begin on the weekday `week_start`, from 0 for Monday to 6 for Sunday.
+/// The week in which a day lies, if weeks begin on the weekday `week_start`, from 0 for Monday to 6 for Sunday.
 ///
 /// Numbers are those of BYWEEKNO and WKST (RFC 5545, section 3.3.10), from Monday those of ISO 8601.
 pub fn week_of(day: i64, week_start: u8) -> Week
@@ -74,7 +74,7 @@ fn fourth_of_week(day: i64, week_start: u8) -> i64
     fourth - (fourth - start).rem_euclid(7)
 }
 
-// The number of the week that has this fourth day, where its year has this first day.
+// The number of the week that has this fourth day, if its year has this first day.
 fn number_of_week(fourth: i64, first: i64) -> u8
     requires near { IsDayWithin 2000 fourth }
     requires first { first ≡ day_number (year_of fourth) 1 1 }

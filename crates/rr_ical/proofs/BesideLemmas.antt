@@ -174,7 +174,7 @@ EndsAt kind (Until other at) = other ≡ kind
 EndsAt kind (Both other at n) = other ≡ kind
 EndsAt kind end = Unit {0}
 
--- the end moment that is stated is the end's, where there is one
+-- the end moment that is stated is the end's, if there is one
 abbrev pub FitsUntil : Option Stamp → End → Type 0
 FitsUntil None end = EndsInYears end
 FitsUntil (Some stamp) end = IsStamp stamp × EndsAt stamp.kind end
@@ -247,7 +247,7 @@ module _ {R : Type 0} (language : Language R) (rule_beside : Stamp → ℕ → S
       subst (IsReadEvent IsGood) same
       (event-valid offset start.0 scan.used pass.0 beside.0 first (ok_or_ok pass.0.start NoStart start.0 start.1) beside.1)
 
-  -- what is made of an event that is read is valid, where it is so of each such event
+  -- what is made of an event that is read is valid, if it is so of each such event
   pub read-valid : {S : Type 0} (made_of : Event R → S) (IsValid : S → Type 0) → ((event : Event R) → IsReadEvent IsGood event → IsValid (made_of event))
       → (offset : Option ℤ) (scan : Scan) (made : S) → (passes language rule_beside offset scan >>= λ event. Ok (made_of event)) ≡ Ok made
       → IsValid made

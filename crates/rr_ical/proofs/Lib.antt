@@ -1,4 +1,5 @@
 mod ListedLemmas
+mod ListExamples
 mod ScanLemmas
 mod TextLemmas
 pub mod ColonLemmas

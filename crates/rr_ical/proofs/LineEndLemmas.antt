@@ -6,7 +6,7 @@ use Rattle.std.specs.Str.{bytes_eq}
 use Rattle.std.proofs.lemmas.Bool.{and_parts}
 use Rattle.std.proofs.lemmas.Bool.Decides.{nat_tests}
 use Rattle.rr_model.specs.Text.Lines.{physical_lines, without_mark}
-use Rattle.rr_model.specs.Text.Lists.{list_text}
+use Rattle.rr_ical.specs.Lists.{list_text}
 use Rattle.rr_ical.specs.LineLaws.{HasNoReturn, with_returns, LineEndsDoNotMatter}
 
 -- ---- lines

@@ -10,9 +10,10 @@ use Rattle.rr_model.specs.Moment.{is_same_kind}
 use Rattle.rr_model.specs.Moment.Years.{IsInYears}
 use Rattle.rr_model.specs.Rising.{Rises, with_value}
 use Rattle.rr_model.specs.Series.Validity.{IsValidSeries}
-use Rattle.rr_model.specs.Text.Lists.{empty_list, with_next, series_of_list}
+use Rattle.rr_model.specs.Text.Lists.{series_of_list}
+use Rattle.rr_ical.specs.Lists.{empty_list, with_next}
 use Rattle.rr_model.specs.declared.kind.Kind.{Kind}
-use Rattle.rr_model.specs.declared.listed.ListedDates.{ListedDates}
+use Rattle.rr_ical.specs.declared.listed.ListedDates.{ListedDates}
 use Rattle.rr_model.specs.declared.refusal.Fault.{Fault}
 use Rattle.rr_model.specs.declared.refusal.Refusal.TheVariants.{MixedKinds, NotRising}
 use Rattle.rr_model.specs.declared.stamp.Stamp.{Stamp}

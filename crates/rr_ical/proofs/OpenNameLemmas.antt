@@ -16,7 +16,7 @@ module _ (test : List ℕ → Bool) where
   count-cons : (name : List ℕ) (names : List (List ℕ)) → count_by test (name ∷ names) ≡ cond (test name) 1 0 + count_by test names
   count-cons name names = omega (arith, sum_by-append (λ (x : List ℕ). cond (test x) 1 0) (name ∷ []) names)
 
-  -- there is one where the count is not 0
+  -- there is one if the count is not 0
   pub any-counted : (names : List (List ℕ)) → nat_lt 0 (count_by test names) ≡ list_any test names
   any-counted [] = refl
   any-counted (name ∷ names) =

@@ -50,7 +50,7 @@ module _ {X Y : Type 0} (step : X → Y → Result X Refusal) where
       let one = and_then_ok (step x y) (λ next. in_turn step next ys) z h in
       omega (arith, in_turn-counts size more adds one.0 ys z one.2, adds x y one.0 one.1)
 
-  -- the same where a step may add less
+  -- the same if a step may add less
   in_turn-bounded : (size : X → ℕ) (more : Y → ℕ) → ((x : X) (y : Y) (z : X) → step x y ≡ Ok z → size z ≤ size x + more y) → (x : X) (ys : List Y) (z : X)
       → in_turn step x ys ≡ Ok z → size z ≤ size x + total more ys
   unfolding total

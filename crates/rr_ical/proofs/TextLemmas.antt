@@ -1,8 +1,8 @@
 -- The end of a list's text.
 use Rattle.std.proofs.Common.{◌≡◌, ℕ, List, [], sym, ap, ◌∙◌, Result, Ok}
 use Rattle.rr_model.specs.Text.Lines.{physical_lines}
-use Rattle.rr_model.specs.Text.Lists.{with_list_lines}
-use Rattle.rr_model.specs.declared.listed.ListedDates.{ListedDates}
+use Rattle.rr_ical.specs.Lists.{with_list_lines}
+use Rattle.rr_ical.specs.declared.listed.ListedDates.{ListedDates}
 use Rattle.rr_model.specs.declared.refusal.Refusal.{Refusal}
 
 -- no line is left

@@ -75,7 +75,7 @@ module _ {X : Type 0} (line_of : X → WrittenLine) (after : ℕ → List ℕ �
         let is = states x h.0 in
         rw is.no_begin (no_begins (after k (line_of x).text) xs h.1)
 
-    -- where these are the lines of a text, all are used, and nothing stops their reading
+    -- if these are the lines of a text, all are used, and nothing stops their reading
     pub event_scan-written : (keeps_blank : Bool) (bytes : List ℕ) (xs : List X) → unfolded_lines keeps_blank bytes ≡ lines_from 1 xs → AllByRecursion P xs
         → event_scan keeps_blank bytes ≡ record { used = used_lines_from 1 xs; stop = None }
     unfolding event_scan
@@ -141,7 +141,7 @@ IsPropertyLine-from front value name f plain = record {
   bytes = list_all-both is_line_byte front value f.bytes plain;
 }
 
--- a date's line, which says where it is of whole days
+-- a date's line, which says so if it is of whole days
 abbrev pub date_front : List ℕ → Kind → List ℕ
 date_front word kind = word ++ value_type kind ++ codes ":"
 

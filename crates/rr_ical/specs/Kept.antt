@@ -22,7 +22,7 @@ use Rattle.rr_ical.specs.declared.lines_beside.Setting.{Setting}
 
 -- ---- each line alone
 
--- what stands between date values: commas, and semicolons where they are taken
+-- what stands between date values: commas, and semicolons if they are taken
 abbrev pub is_date_separator : Bool → ℕ → Bool
 is_date_separator takes_semicolons = if takes_semicolons then is_comma_or_semicolon else is_comma
 
@@ -39,12 +39,12 @@ pub record IsDateCut (takes_semicolons : Bool) (text first rest : List ℕ) : Ty
   pub values : date_values takes_semicolons text ≡ first ∷ date_values takes_semicolons rest
   pub shorter : length rest < length text
 
--- one more date value, where `count` are read already: TooManyParts, PeriodValue in RDATE (true), or what the value states
+-- one more date value after `count` of them: TooManyParts, PeriodValue in RDATE (true), or what the value states
 abbrev pub next_date : ℕ → Bool → ℕ → List ℕ → Result Stamp Refusal
 next_date line is_plus count text =
     if nat_le MAX_DATES count then Err TooManyParts else (if is_plus && has_slash text then Err PeriodValue else date_value line text)
 
--- one more rule, where `count` rules are read already: TooManyParts, or what the text states
+-- one more rule after `count` of them: TooManyParts, or what the text states
 abbrev pub next_rule : {R : Type 0} → Language R → ℕ → ℕ → List ℕ → Result (Stated R) Refusal
 next_rule language line count text = if nat_le MAX_RULES count then Err TooManyParts else language.stated line text
 

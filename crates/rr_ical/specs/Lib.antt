@@ -1,5 +1,6 @@
 pub mod Kept
 pub mod Listed
+pub mod Lists
 pub mod Steps
 pub mod LineLaws
 pub mod Components

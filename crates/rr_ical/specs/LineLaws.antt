@@ -2,7 +2,7 @@
 use Rattle.std.specs.Prelude.{◌≡◌, ℕ, ◌==◌, not, if◌then◌else◌, List, [], ◌∷◌, ◌++◌, map, false, IsTrue}
 use Rattle.std.specs.List.{list_all}
 use Rattle.rr_model.specs.Text.Lines.{unfolded_lines}
-use Rattle.rr_model.specs.Text.Lists.{list_text}
+use Rattle.rr_ical.specs.Lists.{list_text}
 
 -- the texts of the unfolded lines, without their numbers
 abbrev pub line_texts : List ℕ → List (List ℕ)

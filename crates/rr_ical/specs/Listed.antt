@@ -3,7 +3,7 @@ use Rattle.std.specs.Prelude.{◌≡◌, ◌≤◌, ℤ, int_lt, List, [], lengt
 use Rattle.rr_model.specs.Moment.Years.{IsInYears}
 use Rattle.rr_model.specs.Rising.{Rises}
 use Rattle.rr_model.specs.declared.limits.TheConstants.{MAX_DATES}
-use Rattle.rr_model.specs.declared.listed.ListedDates.{ListedDates}
+use Rattle.rr_ical.specs.declared.listed.ListedDates.{ListedDates}
 use Rattle.rr_model.specs.declared.stamp.Stamp.{Stamp}
 
 -- the first value and the values after it lie in the years 1 to 9999, and no value comes before the first

@@ -26,7 +26,7 @@ fn has_time(kind: Kind) -> bool
     }
 }
 
-/// A moment beside the start: a moment of UTC is turned where the start is local time.
+/// A moment beside the start: a moment of UTC is turned into local time if the start is local time.
 pub(crate) fn moment_beside(
     offset: Option<i32>,
     start: Stamp,
@@ -53,10 +53,10 @@ fn end_at(end: End, at: i64) -> End
     }
 }
 
-/// The end beside the start, where a moment of UTC is turned into local time if the start is local.
+/// The end beside the start: a moment of UTC is turned into local time if the start is local time.
 ///
 /// The offset is local time less UTC in seconds. `UtcMoment` comes for a moment to be turned without an offset, and
-/// `BadMoment` where it leaves the years 1 to 9999.
+/// `BadMoment` if it leaves the years 1 to 9999.
 pub fn end_beside(
     offset: Option<i32>,
     start: Stamp,

@@ -27,7 +27,7 @@ fn separator_index(takes_semicolons: bool, text: &[u8]) -> Option<usize>
     }
 }
 
-/// The first date value of a text, and what stands after the separator behind it; `None` where the text is one value.
+/// The first date value of a text, and what stands after the separator behind it; `None` if the text is one value.
 pub(crate) fn cut_date(takes_semicolons: bool, text: &[u8]) -> Option<(&[u8], &[u8])>
     ensures { MatchOption result (IsOneDate takes_semicolons text.now)
         (λ sides. IsDateCut takes_semicolons text.now sides.0.now sides.1.now) }

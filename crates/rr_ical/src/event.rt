@@ -155,9 +155,9 @@ fn count_lines(bytes: &[u8]) -> u64
 
 /// The used lines of the one event of a text, or of a text without components, up to the first fault of these.
 ///
-/// A used line is DTSTART, RRULE, RDATE, EXDATE or EXRULE directly within VEVENT; where no line has the name BEGIN,
+/// A used line is DTSTART, RRULE, RDATE, EXDATE or EXRULE directly within VEVENT; if no line has the name BEGIN,
 /// each such line is one. The scan stops with `BadLine` at a used, BEGIN or END line without a value, at an END that
-/// does not close the innermost open component, and, with the last line's number, where the text ends within a
+/// does not close the innermost open component, and, with the last line's number, if the text ends within a
 /// component; with `SeveralEvents` at a second VEVENT (RFC 5545, sections 3.4 and 3.6). Lines are unfolded as
 /// `rr_text::lines` does it, and `keep_blank` is handed to it. A byte order mark is no part of the bytes.
 #[tactic(auto, unfolding(rr_model::specs::Text::Event::event_scan))]

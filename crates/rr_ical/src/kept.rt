@@ -15,7 +15,7 @@ pub enum LineValue<R> {
         line: u64,
         /// Whether it is a value of RDATE.
         is_plus: bool,
-        /// What it states.
+        /// The date or moment as the text states it.
         stamp: Stamp,
     },
     /// The rule of RRULE or EXRULE.
@@ -24,7 +24,7 @@ pub enum LineValue<R> {
         line: u64,
         /// Whether it is the rule of RRULE.
         is_given: bool,
-        /// What it states.
+        /// The rule and its UNTIL as the line states them.
         stated: StatedRule<R>,
     },
 }
@@ -62,7 +62,7 @@ impl<R: Drop> LineValues<R> {
         Ok(())
     }
 
-    /// The values in order.
+    /// The values in the order of the text, moved out of the list.
     pub fn into_items(self) -> Vec<LineValue<R>>
         ensures { result.items ≡ self }
     {
@@ -75,6 +75,6 @@ impl<R: Drop> LineValues<R> {
 pub struct ReadLines<R> {
     /// The start, and how many rules and dates there are.
     pub pass: FirstPass,
-    /// The rules and dates.
+    /// The rules and dates, in the order of the text.
     pub values: LineValues<R>,
 }

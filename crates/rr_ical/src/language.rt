@@ -36,14 +36,14 @@ impl<R: Drop> StatedRule<R> {
         Ok(StatedRule { rule, until })
     }
 
-    /// Its UNTIL.
+    /// UNTIL as its text states it, or `None` for a rule without UNTIL.
     pub fn until(&self) -> Option<Stamp>
         ensures { result ≡ self.now.until }
     {
         self.until
     }
 
-    /// The rule.
+    /// The rule, with its end as the text states it.
     pub fn into_rule(self) -> R
         ensures { result ≡ self.rule }
     {

@@ -36,7 +36,7 @@ fn has_slash(text: &[u8]) -> bool
     text.iter().any(|b| *b == b'/')
 }
 
-/// What a date value states, with blanks around it or none. `BadMoment` comes where it is no date or moment.
+/// What a date value states, with blanks around it or none. `BadMoment` comes if it is no date or moment.
 pub fn date_value(line: u64, text: &[u8]) -> Result<Stamp, Refusal>
     ensures value { result ≡ date_value line text.now }
     ensures years { IfOk result (λ stamp. IsInYears stamp.kind stamp.at) }
@@ -47,7 +47,7 @@ pub fn date_value(line: u64, text: &[u8]) -> Result<Stamp, Refusal>
     }
 }
 
-// One more value of RDATE or EXDATE, where `date_count` are read.
+// One more value of RDATE or EXDATE, after `date_count` of them.
 fn next_date(line: u64, is_plus: bool, date_count: usize, text: &[u8]) -> Result<Stamp, Refusal>
     ensures value { result ≡ next_date line is_plus date_count text.now }
     ensures room { IfOk result (λ stamp. date_count < MAX_DATES) }
@@ -80,7 +80,7 @@ fn keep_date<R: Drop>(
     Ok(())
 }
 
-// Keeps the values of a line of RDATE or EXDATE from left to right, between commas and, where they are taken, semicolons.
+// Keeps the values of a line of RDATE or EXDATE from left to right, between commas and, if they are taken, semicolons.
 fn keep_dates<R: Drop>(
     line: u64,
     is_plus: bool,
@@ -99,7 +99,7 @@ fn keep_dates<R: Drop>(
     keep_date(line, is_plus, read, rest)
 }
 
-// One more rule, where `rule_count` are read; it is read only where there is room for it.
+// One more rule, after `rule_count` of them; it is read only if there is room for it.
 fn next_rule<R: Drop, L: RuleLanguage<R>>(
     language: &L,
     alloc: Global,

@@ -16,13 +16,13 @@ use std::marker::Model;
 /// Rules, excluded rules and dates beside a start.
 #[derive(Drop)]
 pub struct BesideStart<R> {
-    /// The rules of RRULE.
+    /// The rules of RRULE, in the order of their lines.
     pub rules: Vec<R>,
-    /// The rules of EXRULE.
+    /// The rules of EXRULE, in the order of their lines (RFC 2445, section 4.8.5.2).
     pub excluded: Vec<R>,
-    /// The values of RDATE.
+    /// The values of RDATE: day numbers or second numbers, as the start is a date or a moment.
     pub plus: Dates,
-    /// The values of EXDATE.
+    /// The values of EXDATE: day numbers or second numbers, as the start is a date or a moment.
     pub minus: Dates,
 }
 
@@ -44,7 +44,7 @@ impl<R> Model for BesideStart<R> {
 pub struct Setting {
     /// The stated offset, local time less UTC, in seconds.
     pub offset: Option<i32>,
-    /// The start.
+    /// DTSTART as its line states it.
     pub start: Stamp,
 }
 

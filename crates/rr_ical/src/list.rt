@@ -1,13 +1,15 @@
 // Reads a list, value by value.
 ghost use Rattle.std.specs.Prelude.{◌≡◌, ◌<◌, IfOk, IfSome};
-ghost use Rattle.rr_model.specs.Text.Lists.{empty_list, with_next, with_list_value, with_trimmed, with_list_line, with_list_lines, series_of_list, list_text, reads_list};
+ghost use Rattle.rr_model.specs.Text.Lists.{series_of_list};
+ghost use Rattle.rr_ical.specs.Lists.{empty_list, with_next, with_list_value, with_trimmed, with_list_line, with_list_lines, list_text, reads_list};
 ghost use Rattle.rr_model.specs.Text.Lines.{physical_lines};
 ghost use Rattle.rr_model.specs.Moment.Years.{IsInYears};
 ghost use Rattle.rr_model.specs.Series.Validity.{IsValidSeries};
 ghost use Rattle.rr_ical.specs.Listed.{IsValidListed};
 ghost use Rattle.rr_model.specs.Answers.{Answers};
 
-use rr_model::{Dates, Fault, Kind, ListedDates, MAX_DATES, Refusal, Rules, Series, Stamp};
+use crate::ListedDates;
+use rr_model::{Dates, Fault, Kind, MAX_DATES, Refusal, Rules, Series, Stamp};
 use rr_text::{is_text, plain_extended, take_line, trim, without_mark};
 use std::alloc::Global;
 
@@ -74,7 +76,7 @@ fn with_trimmed(line: u64, so_far: ListedDates, text: &[u8]) -> Result<ListedDat
     }
 }
 
-#[tactic(auto, unfolding(rr_model::specs::Text::Lists::with_list_line))]
+#[tactic(auto, unfolding(crate::specs::Lists::with_list_line))]
 fn with_list_line(line: u64, so_far: ListedDates, text: &[u8]) -> Result<ListedDates, Fault>
     requires { IsValidListed so_far }
     ensures answer { Answers (with_list_line line so_far text.now) result }
@@ -124,7 +126,7 @@ fn series_of_list(alloc: Global, first: Option<Stamp>, plus: Dates) -> Series
     }
 }
 
-#[tactic(auto, unfolding(rr_model::specs::Text::Lists::list_text))]
+#[tactic(auto, unfolding(crate::specs::Lists::list_text))]
 fn read_text(alloc: Global, text: &[u8]) -> Result<Series, Fault>
     ensures valid { IfOk result IsValidSeries }
     ensures answer { Answers (list_text text.now) result }
@@ -140,7 +142,7 @@ fn read_text(alloc: Global, text: &[u8]) -> Result<Series, Fault>
 /// counts; of an empty list nothing occurs. The first fault is the refusal: `NotText` for bytes that are no UTF-8,
 /// then line by line `TooManyParts` at the 10,001st value, `BadMoment`, `MixedKinds` for another kind than the
 /// first value's, and `NotRising` for a value that is not above the one before it.
-#[tactic(auto, unfolding(rr_model::specs::Text::Lists::reads_list))]
+#[tactic(auto, unfolding(crate::specs::Lists::reads_list))]
 pub fn read_list(alloc: Global, bytes: &[u8]) -> Result<Series, Fault>
     ensures answers { Answers (reads_list bytes.now) result }
     ensures valid { IfOk result IsValidSeries }

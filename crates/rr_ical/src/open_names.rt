@@ -15,9 +15,9 @@ use std::marker::Model;
 /// Which components are looked for.
 #[derive(Clone, Copy, Debug, PartialEq, Eq)]
 pub enum Sought {
-    /// VEVENT.
+    /// Components named VEVENT alone.
     Events,
-    /// VEVENT and VTIMEZONE.
+    /// Components named VEVENT and VTIMEZONE.
     EventsAndZones,
     /// STANDARD and DAYLIGHT, the observances of a VTIMEZONE.
     Observances,
@@ -36,7 +36,7 @@ fn is_observance(name: &[u8]) -> bool
     is_same_name(name, b"STANDARD") || is_same_name(name, b"DAYLIGHT")
 }
 
-// 1 where it is so, and otherwise 0.
+// 1 if it is so, and otherwise 0.
 fn number_if(is_so: bool) -> usize
     ensures { result ≡ cond is_so 1 0 }
 {
@@ -69,7 +69,7 @@ impl Model for OpenNames {
 }
 
 impl OpenNames {
-    /// No component is open.
+    /// The stack before the first line: no component is open.
     pub fn new(alloc: Global) -> Self
         ensures { result ≡ [] }
     {

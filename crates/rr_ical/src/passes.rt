@@ -13,9 +13,9 @@ use std::marker::Model;
 /// The start of an event with the rules and dates beside it.
 #[derive(Drop)]
 pub struct ReadEvent<R> {
-    /// The start.
+    /// DTSTART as its line states it.
     pub start: Stamp,
-    /// What stands beside it.
+    /// The rules and dates beside it, with their moments turned into its local time.
     pub beside: BesideStart<R>,
 }
 
@@ -52,7 +52,7 @@ fn kept_event<R: Drop, L: RuleLanguage<R>>(
 /// Line by line, from left to right, come of DTSTART `PartTwice`, `BadMoment`; of each value of RDATE or EXDATE `TooManyParts`,
 /// `PeriodValue` in RDATE, `BadMoment`; of RRULE and EXRULE `TooManyParts`, then what the language refuses. Then come the fault of
 /// the components, `NoStart`, and line by line beside the start, of each date `MixedKinds`, `UtcMoment` without an offset,
-/// `BadMoment` where the offset leaves the years 1 to 9999, and of a rule what the language refuses there.
+/// `BadMoment` if the offset leaves the years 1 to 9999, and of a rule what the language refuses there.
 pub fn event_of<R: Drop, L: RuleLanguage<R>>(
     language: &L,
     alloc: Global,

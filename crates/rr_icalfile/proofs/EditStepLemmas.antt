@@ -1,7 +1,7 @@
 -- What the steps of an edit answer.
 use Rattle.std.proofs.Common.{◌≡◌, List, ℤ, Option, None, Some, Result, Ok, Err, refl, sym}
 use Rattle.rr_model.specs.Answers.{Answers}
-use Rattle.rr_model.specs.Text.Calendars.{calendar_scan}
+use Rattle.rr_rule_parts.specs.Calendars.{calendar_scan}
 use Rattle.rr_model.specs.declared.refusal.Fault.{Fault}
 use Rattle.rr_model.specs.declared.refusal.Fault.TheVariants as fault
 use Rattle.rr_model.specs.declared.refusal.Refusal.{Refusal}

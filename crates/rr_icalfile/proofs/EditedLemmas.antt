@@ -4,7 +4,7 @@ use Rattle.std.proofs.Common.{refl, subst, ℤ}
 use Rattle.std.specs.Prelude.{not, ◌&&◌}
 use Rattle.rr_model.specs.Moment.Years.{IsInYears}
 use Rattle.rr_model.specs.Series.Validity.{IsValidSeries}
-use Rattle.rr_model.specs.Text.Calendars.{calendar_scan, rrule_language, rule_beside, series_of_event}
+use Rattle.rr_rule_parts.specs.Calendars.{calendar_scan, rrule_language, rule_beside, series_of_event}
 use Rattle.rr_model.specs.Text.Passes.{date_beside, date_value, passes}
 use Rattle.rr_model.specs.Text.Rules.{has_time}
 use Rattle.rr_model.specs.Text.RuleValues.{◌>>=◌}

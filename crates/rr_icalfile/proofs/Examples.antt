@@ -3,7 +3,7 @@ use Rattle.std.proofs.Common.{◌≡◌, refl, true, false, ℕ, pos, List, [], 
 use Rattle.std.specs.Prelude.{Result, Ok, Err, None, codes, map}
 use Rattle.std.specs.List.{list_any}
 use Rattle.rr_model.specs.Calendar.{day_number, days_of_months, first_day_of_year}
-use Rattle.rr_model.specs.Text.Calendars.{calendar_scan}
+use Rattle.rr_rule_parts.specs.Calendars.{calendar_scan}
 use Rattle.rr_model.specs.Text.Event.{used_line}
 use Rattle.rr_model.specs.Text.Lines as L
 use Rattle.rr_model.specs.Text.Moments.{basic, basic_date, basic_moment, basic_time, is_digits, number_at}

@@ -2,7 +2,7 @@
 use Rattle.std.proofs.Common.{◌≡◌, Bool, true, List, ℤ, Option, None, Some, Result, Ok, Err, refl, sym, subst, ap, ◌∙◌}
 use Rattle.std.proofs.lemmas.Bool.{false≢true}
 use Rattle.rr_model.specs.Series.Occurrences.{Occurs}
-use Rattle.rr_model.specs.Text.Calendars.{calendar_scan}
+use Rattle.rr_rule_parts.specs.Calendars.{calendar_scan}
 use Rattle.rr_model.specs.declared.rule.Series.{Series}
 use Rattle.rr_rrule.proofs.BesideLemmas.{scan-valid}
 use Rattle.rr_seam.specs.Steps.{at_event, key_in_turn}

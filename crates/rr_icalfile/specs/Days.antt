@@ -8,7 +8,8 @@ use Rattle.std.specs.Ordering.{int_eq}
 use Rattle.rr_model.specs.Moment.{day_part, second_part}
 use Rattle.rr_model.specs.Moment.Units.{is_whole_days}
 use Rattle.rr_model.specs.Rule.Validity.{is_absent}
-use Rattle.rr_model.specs.Text.Calendars.{calendar_scan, is_comma}
+use Rattle.rr_model.specs.Text.Calendars.{is_comma}
+use Rattle.rr_rule_parts.specs.Calendars.{calendar_scan}
 use Rattle.rr_model.specs.Text.Moments.{basic}
 use Rattle.rr_model.specs.Text.UsedLines.{trim}
 use Rattle.rr_model.specs.declared.kind.Kind.{Kind}

@@ -5,7 +5,7 @@ use Rattle.std.specs.List.{list_any}
 use Rattle.std.specs.Option.{is_some}
 use Rattle.std.specs.Ordering.{int_eq}
 use Rattle.rr_model.specs.Rising.{with_value}
-use Rattle.rr_model.specs.Text.Calendars.{calendar_scan}
+use Rattle.rr_rule_parts.specs.Calendars.{calendar_scan}
 use Rattle.rr_model.specs.Text.Passes.{date_beside, date_value}
 use Rattle.rr_model.specs.Text.RuleValues.{◌>>=◌}
 use Rattle.rr_model.specs.Text.Rules.{has_time}

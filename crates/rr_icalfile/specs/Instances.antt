@@ -3,7 +3,7 @@ use Rattle.std.specs.Prelude.{◌≡◌, ◌↔◌, Bool, true, false, List, ℤ
 use Rattle.std.specs.List.{Contains}
 use Rattle.rr_model.specs.Moment.{Occurrences}
 use Rattle.rr_model.specs.Series.Occurrences.{Occurs}
-use Rattle.rr_model.specs.Text.Calendars.{calendar_scan}
+use Rattle.rr_rule_parts.specs.Calendars.{calendar_scan}
 use Rattle.rr_model.specs.declared.kind.Kind.{Kind}
 use Rattle.rr_model.specs.declared.rule.Series.{Series}
 use Rattle.rr_model.specs.declared.stamp.Stamp.{Stamp}

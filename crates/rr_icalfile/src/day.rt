@@ -1,7 +1,8 @@
 // Dates beside a start with a time of day, read as the occurrences of their days (RFC 5545, sections 3.8.4.4 and 3.8.5.1).
 ghost use Rattle.std.specs.Prelude.{◌≡◌, ◌++◌, flat_map, map, option_map, IfOk, OnOk};
 ghost use Rattle.std.specs.List.{list_all, list_any, slice_split};
-ghost use Rattle.rr_model.specs.Text.Calendars.{calendar_scan, is_comma};
+ghost use Rattle.rr_model.specs.Text.Calendars.{is_comma};
+ghost use Rattle.rr_rule_parts.specs.Calendars.{calendar_scan};
 ghost use Rattle.rr_seam.specs.Steps.{AnswersKey};
 ghost use Rattle.rr_icalfile.specs.Days.{are_clear, has_clear_days, have_one_time, instance_with_time, is_mixed, is_other_time, is_unclear, is_unclear_instance, is_unclear_line, keeps_time, lines_with_time, own_time, read_days, reading_of, recurrence_with_time, scan_with_time, series_by_days, series_with_time, stated_day, value_line, with_time};
 

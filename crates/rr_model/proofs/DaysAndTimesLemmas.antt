@@ -16,7 +16,7 @@ use Rattle.rr_model.specs.declared.rule.Rule.{Rule}
 use Rattle.rr_model.proofs.WholeLemmas.{floor_whole, floor_mod_below}
 use Rattle.rr_model.proofs.MomentLemmas.{day_part-moment_at, second_part-moment_at}
 
--- three tests hold together where each does
+-- three tests hold together if each does
 pub and_true : (a b c : Bool) → IsTrue a → IsTrue b → IsTrue c → IsTrue (a && b && c)
 and_true a b c ha hb hc = rw (ha, hb, hc) refl
 

@@ -1,4 +1,4 @@
--- Division that rounds down: beside `div_euclid` and `rem_euclid`, and where whole multiples of the divisor are added.
+-- Division that rounds down: beside `div_euclid` and `rem_euclid`, and with whole multiples of the divisor added.
 use Rattle.std.proofs.Common.{◌≡◌, ℕ, ◌+◌, ◌*◌, ◌<◌, ◌≤◌, ◌⊎◌, inl, inr, ℤ, pos, negsuc, refl, ◌+ℤ◌, ◌-ℤ◌, ◌*ℤ◌, sym, ap, ◌∙◌, w64, of_z, arith}
 use Rattle.std.specs.Int.{int_div_euclid, int_rem_euclid}
 use Rattle.std.proofs.lemmas.Int.{ints}
@@ -44,7 +44,7 @@ floor_div-add z k n h = (floor-add z k n h).0
 pub floor_mod-add : (z k : ℤ) (n : ℕ) → 0 < n → floor_mod (z +ℤ (k *ℤ pos n)) n ≡ floor_mod z n
 floor_mod-add z k n h = (floor-add z k n h).1
 
--- one more: the quotient grows exactly where the remainder comes to 0
+-- one more: the quotient grows exactly if the remainder comes to 0
 pub floor_step : (y : ℤ) (n : ℕ) → 0 < n
     → ((floor_mod y n ≡ 0) × (floor_div y n ≡ floor_div (y -ℤ pos 1) n +ℤ pos 1)) ⊎ ((floor_mod y n ≡ 0 → ⊥) × (floor_div y n ≡ floor_div (y -ℤ pos 1) n))
 floor_step y n h =

@@ -24,13 +24,13 @@ mod FirstRefusalLemmas
 pub mod StartLemmas
 pub mod TreeLemmas
 mod GraphExamples
-mod LineExamples
+pub mod LineExamples
 mod ReadingExamples
 pub mod TurnLemmas
 mod VcalExamples
 mod CounterpartExamples
 mod MomentExamples
-mod WrittenExamples
+pub mod WrittenExamples
 pub mod DaysAndTimesLemmas
 pub mod ChoiceLemmas
 pub mod OrderLemmas

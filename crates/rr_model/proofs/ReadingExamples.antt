@@ -1,36 +1,9 @@
--- Worked calendars and lists: what they state, or the first refusal.
-use Rattle.std.proofs.Common.{◌≡◌, ℕ, List, [], ◌∷◌, ◌++◌, ℤ, pos, true, false, refl}
-use Rattle.std.specs.Prelude.{codes, None, Some, Ok, Err}
+-- Worked dates and moments of ISO 8601.
+use Rattle.std.proofs.Common.{◌≡◌, pos, true, false, refl}
+use Rattle.std.specs.Prelude.{codes, None, Some}
 use Rattle.rr_model.specs.Calendar.{day_number, first_day_of_year, days_of_months}
-use Rattle.rr_model.specs.Text.Moments.{is_digits, number_at, basic, basic_date, basic_time, basic_moment, date_stamp, moment_stamp}
-use Rattle.rr_model.specs.Text.RuleValues.{freq_named, weekday_named, number_up_to, number_within, numbers_of, day_item_within, day_items_of}
-use Rattle.rr_model.specs.Text.Rules.{part_named, name_of, with_part, parts_of, rule_of, rule_parts, line_value}
-use Rattle.rr_model.specs.Rule.Plain.{plain_rule}
-use Rattle.rr_model.specs.declared.kind.Kind.{Kind}
-use Rattle.rr_model.specs.declared.kind.Kind.TheVariants.{Days, Moments}
-use Rattle.rr_model.specs.declared.rule.DayItem.{DayItem}
-use Rattle.rr_model.specs.declared.rule.End.{End}
-use Rattle.rr_model.specs.declared.rule.End.TheVariants.{Never, Until, Count}
-use Rattle.rr_model.specs.declared.rule.Freq.{Freq}
-use Rattle.rr_model.specs.declared.rule.Freq.TheVariants.{Daily, Weekly}
-use Rattle.rr_model.specs.declared.rule.Rule.{Rule}
-use Rattle.rr_model.specs.declared.rule.Series.{Series}
-use Rattle.rr_model.specs.Text.Lines.{physical_lines, unfolded_lines}
-use Rattle.rr_model.specs.Text.UsedLines.{value_of_line, line_kind}
-use Rattle.rr_model.specs.Text.Event.{left_by, event_scan}
+use Rattle.rr_model.specs.Text.Moments.{is_digits, number_at, basic_date, basic_time, date_stamp, moment_stamp}
 use Rattle.rr_model.specs.Text.ExtendedMoments.{extended_date_of, extended_time_of, extended_moment_of, extended}
-use Rattle.rr_model.specs.Text.Lists.{with_list_line, list_text}
-use Rattle.rr_model.specs.Text.Calendars.{stated_rule, rule_beside, calendar_text}
-use Rattle.rr_model.specs.declared.refusal.Refusal.{Refusal}
-use Rattle.rr_model.specs.declared.refusal.Refusal.TheVariants.{BadLine, SeveralEvents, NoStart, BadMoment, MixedKinds, BadRule, PartTwice, NumberRange}
-use Rattle.rr_model.specs.declared.refusal.Refusal.TheVariants.{NotAllowed, UtcMoment, PeriodValue, Extended, NotRising}
-use Rattle.rr_model.proofs.LineExamples.{calendar_file}
-
-abbrev rule : Freq → List DayItem → End → Rule
-rule freq days end = record (plain_rule freq 1) { by_day = days; end = end }
-
-abbrev series : Kind → ℤ → List Rule → List ℤ → List ℤ → Series
-series kind start rules plus minus = record { kind = kind; start = start; start_counts = true; rules = rules; excluded = []; plus = plus; minus = minus }
 
 extended_texts :
     (extended (codes "2024-02-29") ≡ Some (date_stamp (pos 19_782)))
@@ -44,74 +17,3 @@ extended_texts :
     × (extended (codes "2024-01-02T24:00:00") ≡ None)
 unfolding day_number first_day_of_year days_of_months is_digits number_at basic_date basic_time extended_date_of extended_time_of extended_moment_of extended
 extended_texts = (refl, refl, refl, refl, refl, refl, refl, refl, refl)
-
-abbrev dates : List ℤ → Series
-dates plus = series Days (pos 19_723) [] plus []
-
-lists :
-    (list_text (codes "") ≡ Ok (record { kind = Days; start = pos 0; start_counts = false; rules = []; excluded = []; plus = []; minus = [] }))
-    × (list_text (codes "\n 2024-01-01\t\r\n\n2024-01-03") ≡ Ok (dates (pos 19_725 ∷ [])))
-    × (list_text (codes "2024-01-02\n2024-01-01\n") ≡ Err (NotRising 2))
-    × (list_text (codes "2024-01-02\n2024-01-02\n") ≡ Err (NotRising 2))
-    × (list_text (codes "2024-01-02\n2024-01-01T00:00:00\n") ≡ Err (MixedKinds 2))
-    × (list_text (codes "2024-01-02T00:00:00.0\n") ≡ Err (BadMoment 1))
-    × (list_text (codes "2024-01-02\r") ≡ Err (BadMoment 1))
-    × (list_text (239 ∷ 187 ∷ 191 ∷ codes "2024-01-01\n") ≡ Ok (dates []))
-unfolding physical_lines day_number first_day_of_year days_of_months is_digits number_at basic_date basic_time extended_date_of extended_time_of
-    extended_moment_of extended with_list_line list_text
-lists = (refl, refl, refl, refl, refl, refl, refl, refl)
-
-abbrev text : List ℕ → List ℕ → List ℕ
-text start rule = codes "DTSTART:" ++ start ++ 10 ∷ (codes "RRULE:" ++ rule ++ 10 ∷ [])
-
-calendars :
-    (calendar_text None calendar_file
-    ≡ Ok (series Moments (pos 1_704_276_000) (rule Weekly (record { place = pos 0; weekday = 2 } ∷ []) (Count 4) ∷ []) [] (pos 1_704_880_800 ∷ [])))
-    × (calendar_text None (codes "DTSTART;TZID=Europe/Berlin:20240101T093000\nRRULE:FREQ=DAILY;UNTIL=20240103T083000Z\n") ≡ Err UtcMoment)
-    × (calendar_text (Some (pos 3_600)) (codes "DTSTART;TZID=Europe/Berlin:20240101T093000\nRRULE:FREQ=DAILY;UNTIL=20240103T083000Z\n")
-    ≡ Ok (series Moments (pos 1_704_101_400) (rule Daily [] (Until Moments (pos 1_704_274_200)) ∷ []) [] []))
-    × (calendar_text None (codes "DTSTART:20240101\nRDATE:20240103, 20240102\nEXDATE:20240101\n")
-    ≡ Ok (series Days (pos 19_723) [] (pos 19_724 ∷ pos 19_725 ∷ []) (pos 19_723 ∷ [])))
-    × (calendar_text None (codes "DTSTART:20240101\nEXRULE:FREQ=WEEKLY\nRRULE:FREQ=DAILY\nEXRULE:FREQ=DAILY;UNTIL=20240105\n")
-    ≡ Ok (record {
-      kind = Days;
-      start = pos 19_723;
-      start_counts = true;
-      rules = rule Daily [] Never ∷ [];
-      excluded = rule Weekly [] Never ∷ rule Daily [] (Until Days (pos 19_727)) ∷ [];
-      plus = [];
-      minus = [];
-    }))
-unfolding calendar_file physical_lines unfolded_lines value_of_line line_kind left_by event_scan stated_rule rule_beside calendar_text day_number
-    first_day_of_year days_of_months is_digits number_at basic basic_date basic_time basic_moment freq_named weekday_named number_up_to number_within
-    numbers_of day_item_within day_items_of part_named name_of with_part parts_of rule_of rule_parts line_value
-calendars = (refl, refl, refl, refl, refl)
-
-abbrev refused : List ℕ → Refusal → Type 0
-refused bytes refusal = calendar_text None bytes ≡ Err refusal
-
-refusals :
-    refused (codes "END:VEVENT") (BadLine 1)
-    × refused (codes "BEGIN:VEVENT\nDTSTART:20240101\nEND:VEVENT\nBEGIN:VEVENT\n") SeveralEvents
-    × refused (codes "") NoStart
-    × refused (codes "DTSTART:20230229") (BadMoment 1)
-    × refused (codes "DTSTART:20240101T090000\nEXDATE:20240102\n") (MixedKinds 2)
-    × refused (text (codes "20240101") (codes "FREQ=FORTNIGHTLY")) (BadRule 2)
-    × refused (codes "DTSTART:20240101\nDTSTART:x\n") (PartTwice 2)
-    × refused (text (codes "20240101") (codes "FREQ=DAILY;COUNT=0")) (NumberRange 2)
-    × refused (codes "DTSTART:20240101T090000\nRDATE;VALUE=PERIOD:20240102T090000/PT1H\n") PeriodValue
-    × refused (codes "DTSTART:20240101\nEXRULE:x\n") (BadRule 2)
-    × refused (codes "DTSTART:20240101\nEXRULE:FREQ=DAILY;SKIP=OMIT\n") Extended
-    × refused (codes "EXRULE:FREQ=HOURLY\nDTSTART:20240101\nRDATE:20240102T000000\n") NotAllowed
-    × refused (codes "DTSTART:20240101T090000\nRDATE:20240102,20240102T000000Z\n") (MixedKinds 2)
-    × refused (codes "DTSTART:20240101T090000\nRDATE:20240102T000000Z,20240102\n") UtcMoment
-    × refused (text (codes "20240101") (codes "FREQ=HOURLY;UNTIL=20240101T000000Z")) NotAllowed
-    × refused (text (codes "20240101T000000") (codes "FREQ=HOURLY;UNTIL=20240101T000000Z")) UtcMoment
-    × refused (codes "DTSTART:20240101\nEXDATE:\n") (BadMoment 2)
-    × refused (codes "BEGIN:VEVENT\nRDATE:x\n") (BadMoment 2)
-    × refused (codes "BEGIN:VEVENT\nRRULE:FREQ=DAILY\n") (BadLine 2)
-    × (calendar_text (Some (pos 3_600)) (codes "DTSTART:20240101T000000\nEXDATE:99991231T235959Z\n") ≡ Err (BadMoment 2))
-unfolding physical_lines unfolded_lines value_of_line line_kind left_by event_scan stated_rule rule_beside calendar_text day_number first_day_of_year
-    days_of_months is_digits number_at basic basic_date basic_time basic_moment freq_named weekday_named number_up_to number_within numbers_of
-    day_item_within day_items_of part_named name_of with_part parts_of rule_of rule_parts line_value
-refusals = (refl, refl, refl, refl, refl, refl, refl, refl, refl, refl, refl, refl, refl, refl, refl, refl, refl, refl, refl, refl)

@@ -15,7 +15,7 @@ monday_1997_12_29 : IsWeekOf (day_number (pos 1997) 12 29) 0 (pos 1998) 1 53
 unfolding day_number first_day_of_year year_of days_of_months days_into_year week_index fourth_day week_year week_number last_week
 monday_1997_12_29 = (refl, refl, refl)
 
--- where weeks begin on Sunday
+-- if weeks begin on Sunday
 sunday_1997_12_28 : IsWeekOf (day_number (pos 1997) 12 28) 6 (pos 1997) 53 53
 unfolding day_number first_day_of_year year_of days_of_months days_into_year week_index fourth_day week_year week_number last_week
 sunday_1997_12_28 = (refl, refl, refl)

@@ -1,5 +1,5 @@
 -- Worked texts that are written, and read back.
-use Rattle.std.proofs.Common.{◌≡◌, [], ◌∷◌, pos, neg_ℤ, true, false, refl}
+use Rattle.std.proofs.Common.{◌≡◌, [], ◌∷◌, pos, neg_ℤ, false, refl}
 use Rattle.std.specs.Prelude.{codes, None, Ok}
 use Rattle.std.specs.Fmt.{digits}
 use Rattle.serde_json.proofs.OnLiterals.{serde_json_on_literals}
@@ -11,13 +11,11 @@ use Rattle.rr_model.specs.Text.Moments.{is_digits, number_at, basic_date, basic_
 use Rattle.rr_model.specs.Text.Moments.{extended_text}
 use Rattle.rr_model.specs.declared.kind.Kind.TheVariants.{Days, Moments}
 use Rattle.rr_model.specs.declared.rule.End.TheVariants.{Never, Both}
-use Rattle.rr_model.specs.declared.rule.Series.{Series}
-use Rattle.rr_model.specs.Text.RuleValues.{freq_named, weekday_named, number_up_to, number_within, numbers_of, day_item_within, day_items_of}
-use Rattle.rr_model.specs.Text.Rules.{part_named, name_of, with_part, parts_of, rule_of, rule_parts, line_value}
+use Rattle.rr_model.specs.Text.RuleValues.{weekday_named, number_up_to}
+use Rattle.rr_model.specs.Text.Rules.{line_value}
 use Rattle.rr_model.specs.Text.Lines.{physical_lines, unfolded_lines}
 use Rattle.rr_model.specs.Text.UsedLines.{value_of_line, line_kind}
 use Rattle.rr_model.specs.Text.Event.{left_by, event_scan}
-use Rattle.rr_model.specs.Text.Calendars.{stated_rule, rule_beside, calendar_text}
 use Rattle.rr_model.specs.Vcal.Rule.{head_of, parts_of_head, with_word, stated_vrule}
 use Rattle.rr_model.specs.Vcal.Reading.{vrule_beside, reads_vcal}
 use Rattle.rr_model.specs.Text.ExtendedMoments.{extended_date_of, extended_time_of, extended_moment_of, extended}
@@ -69,7 +67,7 @@ unfolding digits first_day_of_year days_of_months year_of days_into_year months_
     weekday_text family_text vrule_text vcal_written
 vcals = refl
 
-abbrev meeting : GraphEvent
+abbrev pub meeting : GraphEvent
 meeting = record {
   kind = Moments;
   start = pos 1_704_187_800;
@@ -77,7 +75,7 @@ meeting = record {
       (record { start_day = pos 19_724; end = EndDate (pos 19_904) });
 }
 
-abbrev month_end : GraphEvent
+abbrev pub month_end : GraphEvent
 month_end = record {
   kind = Days;
   start = pos 19_753;
@@ -136,22 +134,12 @@ graphs = (refl, refl, refl)
 
 -- ---- read back
 
-abbrev empty_series : Series
-empty_series = record { kind = Days; start = pos 0; start_counts = false; rules = []; excluded = []; plus = []; minus = [] }
-
-read_back :
-    (calendar_text None (calendar_written (series_of_graph meeting)) ≡ Ok (series_of_graph meeting))
-    × (calendar_text None (calendar_written (series_of_graph month_end)) ≡ Ok (series_of_graph month_end))
-    × (calendar_text None (calendar_written empty_series)
-    ≡ Ok (record { kind = Days; start = pos 0; start_counts = true; rules = []; excluded = []; plus = []; minus = pos 0 ∷ [] }))
-    × (reads_vcal None (vcal_written march) ≡ Ok march)
-unfolding digits first_day_of_year days_of_months year_of days_into_year months_over month_of day_of_month day_of_year weekday_of week_index is_pattern_day
-    first_from first_repeat_day rule_of_pattern series_of_graph basic_date_text basic_time_text basic_text folded_text freq_text weekday_text rule_text
-    calendar_written family_text vrule_text vcal_written physical_lines unfolded_lines value_of_line line_kind left_by event_scan stated_rule rule_beside
-    calendar_text head_of parts_of_head with_word stated_vrule vrule_beside reads_vcal day_number is_digits number_at basic basic_date basic_time
-    basic_moment freq_named weekday_named number_up_to number_within numbers_of day_item_within day_items_of part_named name_of with_part parts_of rule_of
-    rule_parts line_value
-read_back = (refl, refl, refl, refl)
+vcal_read_back : reads_vcal None (vcal_written march) ≡ Ok march
+unfolding digits first_day_of_year days_of_months year_of days_into_year months_over month_of day_of_month day_of_year basic_date_text basic_time_text
+    basic_text folded_text weekday_text family_text vrule_text vcal_written physical_lines unfolded_lines value_of_line line_kind left_by event_scan
+    head_of parts_of_head with_word stated_vrule vrule_beside reads_vcal day_number is_digits number_at basic basic_date basic_time basic_moment
+    weekday_named number_up_to line_value
+vcal_read_back = refl
 
 graph_read_back :
     (graph_text None (graph_written Days (pos 19_753)

@@ -10,7 +10,7 @@ Answers wanted (Ok x) = wanted ≡ Ok x
 Answers wanted (Err (Refused refusal)) = wanted ≡ Err refusal
 Answers wanted (Err NoMemory) = ⊤
 
--- the answer is this refusal exactly where the condition holds, or out of memory
+-- the answer is this refusal exactly if the condition holds, or out of memory
 abbrev pub RefusedExactlyWhere : {X : Type 0} → Type 0 → Refusal → Result X Fault → Type 0
 RefusedExactlyWhere P refusal (Ok x) = ¬ P
 RefusedExactlyWhere P refusal (Err (Refused other)) = (other ≡ refusal) × P

@@ -11,7 +11,7 @@ Rises below [] = ⊤
 Rises below (x ∷ []) = ⊤
 Rises below (x ∷ y ∷ ys) = IsTrue (below x y) × Rises below (y ∷ ys)
 
--- the list with x at its place, or as it is where x is there
+-- the list with x at its place, or as it is if x is there
 abbrev pub with_value : {X : Type 0} → (X → X → Bool) → List X → X → List X
 with_value below [] x = x ∷ []
 with_value below (y ∷ ys) x = if below y x then y ∷ with_value below ys x else (if below x y then x ∷ y ∷ ys else y ∷ ys)

@@ -65,7 +65,7 @@ impl Bytes {
         self.items.truncate(count);
     }
 
-    /// The bytes in order.
+    /// The bytes, in the order in which they were put.
     pub fn as_slice(&self) -> &[u8]
         ensures { result.now ≡ self.now }
     {

@@ -4,7 +4,7 @@ use crate::Kind;
 /// The type of a pattern (Microsoft Graph, recurrencePattern, type).
 #[derive(Clone, Copy, Debug, PartialEq, Eq)]
 pub enum Form {
-    /// `daily`: each day.
+    /// `daily`: each day, or each so many days by `interval`.
     Daily,
     /// `weekly`: the listed weekdays of a week.
     Weekly,
@@ -23,9 +23,9 @@ pub enum Form {
 /// A member that its type does not use is 0, but `first_day` is 6 and `index` is 1.
 #[derive(Clone, Copy, Debug, PartialEq, Eq)]
 pub struct Pattern {
-    /// The type.
+    /// `type`: which days the pattern takes.
     pub form: Form,
-    /// Every how many days, weeks, months or years it applies: 1 to 999 if daily or weekly, else 1 to 99.
+    /// Every how many days, weeks, months or years it applies: 1 to 999 if daily or weekly, otherwise 1 to 99.
     pub interval: u32,
     /// The day of the month, 1 to 31; a shorter month has it on its last day.
     pub day_of_month: u8,
@@ -42,7 +42,7 @@ pub struct Pattern {
 /// Where a range ends (Microsoft Graph, recurrenceRange, type).
 #[derive(Clone, Copy, Debug, PartialEq, Eq)]
 pub enum RangeEnd {
-    /// `noEnd`: nowhere.
+    /// `noEnd`: the range has no end.
     NoEnd,
     /// `endDate`: on this day, which may still have an occurrence; days since 1970-01-01.
     EndDate(i64),
@@ -53,22 +53,22 @@ pub enum RangeEnd {
 /// A range (Microsoft Graph, recurrenceRange).
 #[derive(Clone, Copy, Debug, PartialEq, Eq)]
 pub struct Range {
-    /// `startDate`, days since 1970-01-01.
+    /// `startDate`, the first day that may have an occurrence, in days since 1970-01-01.
     pub start_day: i64,
-    /// Where it ends.
+    /// The end of the range, by its `type`.
     pub end: RangeEnd,
 }
 
-/// Whether an event repeats.
+/// Whether an event repeats, and how (Microsoft Graph, patternedRecurrence).
 #[derive(Clone, Copy, Debug, PartialEq, Eq)]
 pub enum Repeat {
-    /// The start alone.
+    /// The event occurs once, at its start.
     Once,
     /// The days of a pattern within a range, at the time of the start.
     Pattern {
-        /// The pattern.
+        /// Which days the event takes.
         pattern: Pattern,
-        /// The range.
+        /// From which day on, and up to which day or count.
         range: Range,
     },
 }
@@ -80,6 +80,6 @@ pub struct GraphEvent {
     pub kind: Kind,
     /// The start, a day number or a second number of the years 1 to 9999.
     pub start: i64,
-    /// Whether it repeats.
+    /// Whether the event repeats, and how.
     pub repeat: Repeat,
 }

@@ -8,9 +8,9 @@ ghost use Rattle.rr_model.specs.Moment.{is_same_kind};
 /// In kind `Moments` it is 86,400 times the day number plus the second of the day.
 #[derive(Clone, Copy, Debug, PartialEq, Eq)]
 pub enum Kind {
-    /// Dates without a time.
+    /// Dates without a time of day (RFC 5545, section 3.3.4).
     Days,
-    /// Moments of local time.
+    /// Dates with a time of day, in local time (RFC 5545, section 3.3.5).
     Moments,
 }
 

@@ -3,9 +3,9 @@
 /// A language of recurring series.
 #[derive(Clone, Copy, Debug, PartialEq, Eq)]
 pub enum Lang {
-    /// iCalendar (RFC 5545).
+    /// Rules of iCalendar (RFC 5545, section 3.8.5).
     Rrule,
-    /// vCalendar 1.0.
+    /// Rules of vCalendar 1.0 (basic recurrence rule grammar).
     Vcal,
     /// The recurrence of a Microsoft Graph event.
     Graph,

@@ -25,7 +25,7 @@ pub fn least_start_is_one()
 {}
 
 /// The candidates of a rule, DAILY or coarser, are the seconds of a day that its time parts allow on the days that its
-/// interval and its date parts allow, and none else (RFC 5545, section 3.3.10).
+/// interval and its date parts allow, and no others (RFC 5545, section 3.3.10).
 pub fn candidates_are_days_and_times()
     ensures { CandidatesAreDaysAndTimes }
 {}

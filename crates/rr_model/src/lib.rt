@@ -1,4 +1,5 @@
-//! The data that every crate speaks of, and beside it, in specs/, the definitions that contracts cite.
+//! The data that several crates speak of, and in `specs/` the definitions that contracts cite. `VRuleParts`, which rr_vcal
+//! alone uses, stands here because these definitions speak of it.
 #![tactic(auto)]
 
 mod bytes;
@@ -10,7 +11,6 @@ mod lang;
 mod laws;
 mod limits;
 mod line;
-mod listed;
 mod lists;
 mod moment;
 mod pass;
@@ -18,7 +18,6 @@ mod question;
 mod refusal;
 mod rule;
 mod rule_laws;
-mod rule_parts;
 mod sketch;
 mod stamp;
 mod used;
@@ -41,7 +40,6 @@ pub use limits::{
     FIRST_DAY, MAX_CYCLE_DAYS, MAX_DATES, MAX_DAY, MAX_INPUT, MAX_RULES, MAX_SECONDS, MAX_SPAN_DAYS,
 };
 pub use line::{Line, LineList};
-pub use listed::ListedDates;
 pub use lists::{Dates, DayItems, DayShapes, Items, Numbers, Rules, Seconds, VRules};
 pub use moment::{SECONDS_OF_DAY, day_part, moment_at, second_part};
 pub use pass::FirstPass;
@@ -49,7 +47,6 @@ pub use question::Question;
 pub use refusal::{Fault, Member, NoMemory, Refusal};
 pub use rule::{DayItem, End, Freq, Rule, Series};
 pub use rule_laws::{first_refusal_is_one, members_are_tested};
-pub use rule_parts::{NumberBounds, PartName, RuleParts};
 pub use sketch::{DayShape, Sketch};
 pub use stamp::Stamp;
 pub use used::{LineKind, LineName, Scan, Used, UsedLine};

@@ -48,7 +48,7 @@ impl LineList {
         Ok(())
     }
 
-    /// The values in order.
+    /// The lines, in the order in which they were put.
     pub fn as_slice(&self) -> &[Line]
         ensures { result.now ≡ self.now }
     {

@@ -3,10 +3,10 @@
 /// What is asked of two sets of occurrences, for all years to come.
 #[derive(Clone, Copy)]
 pub enum Question {
-    /// Whether they are equal.
+    /// Whether both have exactly the same occurrences.
     Equal,
-    /// Whether the first is within the second.
+    /// Whether the second has each occurrence of the first.
     Within,
-    /// Whether they have nothing in common.
+    /// Whether no occurrence is in both.
     Disjoint,
 }

@@ -5,43 +5,45 @@ use std::alloc::{AllocError, AllocFailed};
 use std::fmt;
 
 /// A member of a Microsoft Graph event, of its recurrencePattern or of its recurrenceRange.
+///
+/// One that is null counts as missing. Names of types, weekdays and indexes are read in any letter case.
 #[derive(Clone, Copy, Debug, PartialEq, Eq)]
 pub enum Member {
-    /// `start` of an event.
+    /// `start` of an event: an object with `dateTime` and `timeZone`.
     Start,
-    /// `dateTime` of the start.
+    /// `dateTime` of the start: a moment of ISO 8601, with or without a `Z`.
     DateTime,
-    /// `timeZone` of the start.
+    /// `timeZone` of the start: a text, the name of a time zone.
     TimeZone,
-    /// `isAllDay` of an event.
+    /// `isAllDay` of an event: true if its occurrences are dates.
     IsAllDay,
-    /// `recurrence` of an event.
+    /// `recurrence` of an event: an object with `pattern` and `range`.
     Recurrence,
-    /// `pattern` of a recurrence.
+    /// `pattern` of a recurrence: an object.
     Pattern,
-    /// `range` of a recurrence.
+    /// `range` of a recurrence: an object.
     Range,
-    /// `type` of a pattern.
+    /// `type` of a pattern: one of the six names of `Form`.
     PatternType,
-    /// `interval` of a pattern.
+    /// `interval` of a pattern: 1 or more.
     Interval,
-    /// `daysOfWeek` of a pattern.
+    /// `daysOfWeek` of a pattern: names of weekdays, at least one.
     DaysOfWeek,
-    /// `firstDayOfWeek` of a pattern.
+    /// `firstDayOfWeek` of a pattern: the name of a weekday.
     FirstDayOfWeek,
-    /// `index` of a pattern.
+    /// `index` of a pattern: `first` to `fourth`, or `last`.
     Index,
-    /// `dayOfMonth` of a pattern.
+    /// `dayOfMonth` of a pattern: 1 to 31.
     DayOfMonth,
-    /// `month` of a pattern.
+    /// `month` of a pattern: 1 to 12.
     Month,
-    /// `type` of a range.
+    /// `type` of a range: one of the three names of `RangeEnd`.
     RangeType,
-    /// `startDate` of a range.
+    /// `startDate` of a range: a date of ISO 8601.
     StartDate,
-    /// `endDate` of a range.
+    /// `endDate` of a range: a date of ISO 8601.
     EndDate,
-    /// `numberOfOccurrences` of a range.
+    /// `numberOfOccurrences` of a range: 1 or more.
     NumberOfOccurrences,
 }
 
@@ -88,7 +90,8 @@ impl fmt::Display for Member {
 
 /// Why an operand is refused.
 ///
-/// A line is counted from 1, and is the first physical line of an unfolded one. A rule is counted from 1.
+/// The number that a variant holds is a line: the physical line, from 1, on which an unfolded line begins. `NotSynchronised`
+/// holds the number of a rule instead, from 1.
 #[derive(Clone, Copy, Debug, PartialEq, Eq)]
 pub enum Refusal {
     /// The text is longer than `MAX_INPUT` bytes.
@@ -98,7 +101,7 @@ pub enum Refusal {
     /// A used line has no value, an END does not close the innermost open component, or the text ends
     /// within a component (then the line is the text's last).
     BadLine(u64),
-    /// A second event begins.
+    /// The text has more than one event: a second BEGIN:VEVENT stands in it.
     SeveralEvents,
     /// The event has no start.
     NoStart,
@@ -117,7 +120,7 @@ pub enum Refusal {
     UntilAndCount,
     /// A combination of parts that RFC 5545, section 3.3.10, does not allow.
     NotAllowed,
-    /// BYSECOND lists 60.
+    /// BYSECOND lists 60, a leap second, which no moment of rr has.
     LeapSecond,
     /// A moment has a `Z`, the start is local time, and no offset is stated.
     UtcMoment,
@@ -164,7 +167,7 @@ pub enum Refusal {
 impl Refusal {
     ghost use Rattle.rr_model.specs.Text.Refusals.{refusal_name};
 
-    /// The name that is printed.
+    /// The name that is printed: that of the variant.
     pub fn name(&self) -> &'static str
         ensures { result.now ≡ refusal_name self.now }
     {
@@ -213,45 +216,23 @@ impl fmt::Display for Refusal {
     ghost output = { λ refusal. Some (refusal_text refusal) };
 
     fn fmt<W: fmt::Write>(&self, f: &mut fmt::Formatter<W>) -> fmt::Result {
+        let name = self.name();
         match self {
-            Refusal::TooLong => write!(f, "TooLong"),
-            Refusal::NotText => write!(f, "NotText"),
-            Refusal::BadLine(line) => write!(f, "BadLine {line}"),
-            Refusal::SeveralEvents => write!(f, "SeveralEvents"),
-            Refusal::NoStart => write!(f, "NoStart"),
-            Refusal::BadMoment(line) => write!(f, "BadMoment {line}"),
-            Refusal::MixedKinds(line) => write!(f, "MixedKinds {line}"),
-            Refusal::BadRule(line) => write!(f, "BadRule {line}"),
-            Refusal::PartTwice(line) => write!(f, "PartTwice {line}"),
-            Refusal::NumberRange(line) => write!(f, "NumberRange {line}"),
-            Refusal::UntilAndCount => write!(f, "UntilAndCount"),
-            Refusal::NotAllowed => write!(f, "NotAllowed"),
-            Refusal::LeapSecond => write!(f, "LeapSecond"),
-            Refusal::UtcMoment => write!(f, "UtcMoment"),
-            Refusal::UntilKind => write!(f, "UntilKind"),
-            Refusal::UntilBeforeStart => write!(f, "UntilBeforeStart"),
-            Refusal::NotSynchronised(rule) => write!(f, "NotSynchronised {rule}"),
-            Refusal::PeriodValue => write!(f, "PeriodValue"),
-            Refusal::Extended => write!(f, "Extended"),
-            Refusal::BadJson => write!(f, "BadJson"),
-            Refusal::BadMember(member) => write!(f, "BadMember {member}"),
-            Refusal::StartDiffers => write!(f, "StartDiffers"),
-            Refusal::NoOccurrence => write!(f, "NoOccurrence"),
-            Refusal::IntervalTooLarge => write!(f, "IntervalTooLarge"),
-            Refusal::CycleTooLong => write!(f, "CycleTooLong"),
-            Refusal::CountedTooFar => write!(f, "CountedTooFar"),
-            Refusal::TooManyMoments => write!(f, "TooManyMoments"),
-            Refusal::NotSayable => write!(f, "NotSayable"),
-            Refusal::TooManyParts => write!(f, "TooManyParts"),
-            Refusal::NotRising(line) => write!(f, "NotRising {line}"),
-            Refusal::NotCanonical => write!(f, "NotCanonical"),
-            Refusal::MixedSets => write!(f, "MixedSets"),
-            Refusal::PastRange => write!(f, "PastRange"),
+            Refusal::BadLine(line)
+            | Refusal::BadMoment(line)
+            | Refusal::MixedKinds(line)
+            | Refusal::BadRule(line)
+            | Refusal::PartTwice(line)
+            | Refusal::NumberRange(line)
+            | Refusal::NotRising(line) => write!(f, "{name} {line}"),
+            Refusal::NotSynchronised(rule) => write!(f, "{name} {rule}"),
+            Refusal::BadMember(member) => write!(f, "{name} {member}"),
+            _ => write!(f, "{name}"),
         }
     }
 }
 
-/// Out of memory.
+/// A call could not get the memory that it needs.
 #[derive(Clone, Copy, Debug, PartialEq, Eq)]
 pub struct NoMemory;
 
@@ -274,9 +255,9 @@ impl<T: Drop> From<AllocFailed<T>> for NoMemory {
 /// What a call that takes memory and judges its argument answers in place of a value.
 #[derive(Clone, Copy, Debug, PartialEq, Eq)]
 pub enum Fault {
-    /// The argument is refused.
+    /// The argument is refused, for this reason.
     Refused(Refusal),
-    /// Out of memory.
+    /// The call could not get the memory that it needs.
     NoMemory,
 }
 

@@ -9,19 +9,19 @@ use std::alloc::Global;
 /// How often a rule repeats (RFC 5545, section 3.3.10, FREQ), in the order of the units' lengths.
 #[derive(Clone, Copy, Debug, PartialEq, Eq, PartialOrd, Ord)]
 pub enum Freq {
-    /// Each second.
+    /// SECONDLY: each second, or each so many seconds by INTERVAL.
     Secondly,
-    /// Each minute.
+    /// MINUTELY: each minute, or each so many minutes.
     Minutely,
-    /// Each hour.
+    /// HOURLY: each hour, or each so many hours.
     Hourly,
-    /// Each day.
+    /// DAILY: each day, or each so many days.
     Daily,
-    /// Each week.
+    /// WEEKLY: each week, or each so many weeks, which begin as WKST says.
     Weekly,
-    /// Each month.
+    /// MONTHLY: each calendar month, or each so many months.
     Monthly,
-    /// Each calendar year.
+    /// YEARLY: each calendar year, or each so many years.
     Yearly,
 }
 
@@ -48,13 +48,13 @@ pub enum End {
     },
     /// It has at most this number of members.
     Count(u64),
-    /// Both ends hold.
+    /// It ends at the moment or after the number of members, whichever comes first; RFC 5545 has no rule for this.
     Both {
         /// Whether the moment is a date.
         kind: Kind,
         /// Its day number, or its second number.
         at: i64,
-        /// The most members.
+        /// How many members it has at most.
         count: u64,
     },
 }
@@ -71,11 +71,11 @@ pub struct DayItem {
 /// A recurrence rule (RFC 5545, section 3.3.10). An empty list is a part that is absent.
 #[derive(Drop)]
 pub struct Rule {
-    /// How often it repeats.
+    /// FREQ, the unit in which the rule repeats.
     pub freq: Freq,
     /// Every how many of its units it applies, from 1.
     pub interval: u32,
-    /// BYMONTH, 1 to 12.
+    /// BYMONTH, from 1 for January to 12.
     pub by_month: Numbers,
     /// BYWEEKNO, 1 to 53 and -53 to -1.
     pub by_week_no: Numbers,
@@ -83,19 +83,19 @@ pub struct Rule {
     pub by_year_day: Numbers,
     /// BYMONTHDAY, 1 to 31 and -31 to -1.
     pub by_month_day: Numbers,
-    /// BYDAY.
+    /// BYDAY, weekdays with or without an ordinal.
     pub by_day: DayItems,
-    /// BYHOUR, 0 to 23.
+    /// BYHOUR, hours of the day, 0 to 23.
     pub by_hour: Numbers,
-    /// BYMINUTE, 0 to 59.
+    /// BYMINUTE, minutes of the hour, 0 to 59.
     pub by_minute: Numbers,
-    /// BYSECOND, 0 to 59.
+    /// BYSECOND, seconds of the minute, 0 to 59.
     pub by_second: Numbers,
     /// BYSETPOS, 1 to 366 and -366 to -1.
     pub by_set_pos: Numbers,
     /// WKST, the first weekday of a week, from 0 for Monday.
     pub week_start: u8,
-    /// UNTIL or COUNT.
+    /// The end that UNTIL or COUNT states.
     pub end: End,
 }
 
@@ -122,7 +122,7 @@ impl Rule {
         }
     }
 
-    /// The same rule, in memory of its own.
+    /// A copy of the rule, with lists of its own; `NoMemory` is the only error.
     pub fn copy(&self, alloc: Global) -> Result<Self, NoMemory>
         ensures { IfOk result (λ made. made ≡ self.now) }
     {
@@ -153,12 +153,12 @@ pub struct Series {
     pub start: i64,
     /// Whether the start is an occurrence; false for the empty list alone.
     pub start_counts: bool,
-    /// RRULE.
+    /// The rules of RRULE, whose members occur (RFC 5545, section 3.8.5.3).
     pub rules: Rules,
     /// EXRULE, rules whose members do not occur (RFC 2445, section 4.8.5.2).
     pub excluded: Rules,
-    /// RDATE.
+    /// The dates of RDATE, which occur (section 3.8.5.2): day numbers or second numbers, as `kind` says.
     pub plus: Dates,
-    /// EXDATE.
+    /// The dates of EXDATE, which do not occur (section 3.8.5.1): day numbers or second numbers, as `kind` says.
     pub minus: Dates,
 }

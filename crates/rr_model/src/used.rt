@@ -8,13 +8,13 @@ use std::marker::Model;
 /// The name of a line of an event that its readers use (RFC 5545, section 3.8).
 #[derive(Clone, Copy, Debug, PartialEq, Eq)]
 pub enum LineName {
-    /// DTSTART, the start.
+    /// DTSTART, the start of the event (section 3.8.2.4).
     Dtstart,
-    /// RRULE, a recurrence rule.
+    /// RRULE, a recurrence rule (section 3.8.5.3).
     Rrule,
-    /// RDATE, further dates.
+    /// RDATE, dates that occur besides (section 3.8.5.2).
     Rdate,
-    /// EXDATE, excluded dates.
+    /// EXDATE, dates that do not occur (section 3.8.5.1).
     Exdate,
     /// EXRULE, an excluded rule (RFC 2445, section 4.8.5.2).
     Exrule,
@@ -25,7 +25,7 @@ pub enum LineName {
 pub enum LineKind {
     /// BEGIN, which opens a component.
     Begin,
-    /// END, which closes one.
+    /// END, which closes the innermost open component.
     End,
     /// A property that an event's readers use.
     Property(LineName),
@@ -38,7 +38,7 @@ pub enum LineKind {
 pub struct UsedLine {
     /// The number of its first physical line, from 1.
     pub number: u64,
-    /// Its name.
+    /// The name that stands before its parameters.
     pub name: LineName,
     /// Its value, without the blanks and tabs around it.
     pub value: Bytes,
@@ -78,14 +78,14 @@ impl Used {
         Ok(())
     }
 
-    /// Takes away all but the first `count` lines, where there are more.
+    /// Takes away all but the first `count` lines, if there are more.
     pub fn truncate(&mut self, count: usize)
         ensures { self.new ≡ take count self.old }
     {
         self.items.truncate(count);
     }
 
-    /// The values in order.
+    /// The lines, in the order in which they were put.
     pub fn as_slice(&self) -> &[UsedLine]
         ensures { result.now ≡ self.now }
     {
@@ -93,7 +93,7 @@ impl Used {
     }
 }
 
-/// The used lines of the one event, and where the text is no sequence of components any more.
+/// The used lines of the one event, up to the first fault in the sequence of components.
 #[derive(Drop)]
 pub struct Scan {
     /// The used lines before the first fault of the components.

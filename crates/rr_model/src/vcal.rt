@@ -4,15 +4,15 @@ use crate::{Dates, End, Items, Kind, Numbers, Stamp, VRules};
 /// The kind of a rule (vCalendar 1.0, basic recurrence rule grammar).
 #[derive(Clone, Copy, Debug, PartialEq, Eq)]
 pub enum FamilyKind {
-    /// `D`, daily.
+    /// `D`: each day, or each so many days.
     D,
-    /// `W`, weekly.
+    /// `W`: weekly, on listed weekdays.
     W,
     /// `MD`, monthly by days of the month.
     MD,
     /// `MP`, monthly by places of weekdays.
     MP,
-    /// `YM`, yearly by months.
+    /// `YM`: yearly, in listed months.
     YM,
     /// `YD`, yearly by days of the year.
     YD,
@@ -21,24 +21,24 @@ pub enum FamilyKind {
 /// A recurrence rule (vCalendar 1.0, basic recurrence rule grammar).
 #[derive(Drop)]
 pub struct VRule {
-    /// Its kind.
+    /// The letters with which the rule begins.
     pub family: FamilyKind,
     /// Every how many days, weeks, months or years it applies, from 1.
     pub interval: u32,
     /// What it lists, at least one item.
     pub items: Items,
-    /// Where it ends.
+    /// The end that its count or its end moment states.
     pub end: End,
 }
 
 /// The words of a rule as far as they are read.
 #[derive(Drop)]
 pub struct VRuleParts {
-    /// Its kind.
+    /// The letters with which the rule begins.
     pub family: FamilyKind,
     /// Every how many days, weeks, months or years it applies.
     pub interval: u32,
-    /// What it lists.
+    /// What it lists so far.
     pub items: Items,
     /// The places of the group that is being read, 1 to 5 or -5 to -1.
     pub places: Numbers,
@@ -61,8 +61,8 @@ pub struct VSeries {
     pub rules: VRules,
     /// EXRULE, rules whose members do not occur.
     pub excluded: VRules,
-    /// RDATE, further dates.
+    /// RDATE, dates that occur besides: day numbers or second numbers, as `kind` says.
     pub plus: Dates,
-    /// EXDATE, excluded dates.
+    /// EXDATE, dates that do not occur: day numbers or second numbers, as `kind` says.
     pub minus: Dates,
 }

@@ -4,11 +4,11 @@ use crate::Kind;
 /// Which of two series has an occurrence.
 #[derive(Clone, Copy, Debug, PartialEq, Eq)]
 pub enum Side {
-    /// The first alone.
+    /// The first series has it, and the second has not.
     A,
-    /// The second alone.
+    /// The second series has it, and the first has not.
     B,
-    /// Both.
+    /// Both series have it.
     Both,
 }
 
@@ -23,7 +23,7 @@ pub enum Verdict {
         kind: Kind,
         /// Its day number, or its second number.
         at: i64,
-        /// Which series has it.
+        /// Which of the two series has the occurrence.
         side: Side,
     },
 }

@@ -20,7 +20,7 @@ pub fn gcd(a: u64, b: u64) -> u64
     divisor
 }
 
-/// The least common multiple of two numbers that are not 0; `None` where it is above `most`.
+/// The least common multiple of two numbers that are not 0; `None` if it is above `most`.
 pub fn lcm_within(a: u64, b: u64, most: u64) -> Option<u64>
     requires first { 1 ≤ a }
     requires second { 1 ≤ b }

@@ -5,11 +5,12 @@ use Rattle.std.proofs.lemmas.List.Elements.{All-weaker}
 use Rattle.rr_model.specs.Answers.{Answers}
 use Rattle.rr_model.specs.Rule.Validity.{takes_start, IsValidRule, EndsInYears}
 use Rattle.rr_model.specs.Series.Validity.{IsValidSeries}
-use Rattle.rr_model.specs.Text.Calendars.{end_beside, stated_rule, rule_beside, rrule_language, series_of_event, calendar_scan, calendar_text}
+use Rattle.rr_model.specs.Text.Calendars.{end_beside}
+use Rattle.rr_rule_parts.specs.Calendars.{stated_rule, rule_beside, rrule_language, series_of_event, calendar_scan, calendar_text}
 use Rattle.rr_model.specs.Text.Event.{event_scan}
 use Rattle.rr_model.specs.Text.Lines.{without_mark}
 use Rattle.rr_model.specs.Text.Passes.{Stated, Event}
-use Rattle.rr_model.specs.Text.Rules.{rule_of, rule_parts}
+use Rattle.rr_rule_parts.specs.Rules.{rule_of, rule_parts}
 use Rattle.rr_model.specs.declared.kind.Kind.{Kind}
 use Rattle.rr_model.specs.declared.refusal.Fault.{Fault}
 use Rattle.rr_model.specs.declared.refusal.Refusal.TheVariants.{NotAllowed}

@@ -10,7 +10,8 @@ use Rattle.std.proofs.lemmas.Bool.{and_parts}
 use Rattle.std.proofs.lemmas.Bool.Decides.{nat_tests}
 use Rattle.std.proofs.lemmas.List.{take-map, drop-map, length-map, map-append}
 use Rattle.rr_model.specs.Rule.Validity.{is_absent}
-use Rattle.rr_model.specs.Text.Calendars.{stated_rule, rule_beside, is_comma, rrule_language, calendar_scan, calendar_text}
+use Rattle.rr_model.specs.Text.Calendars.{is_comma}
+use Rattle.rr_rule_parts.specs.Calendars.{stated_rule, rule_beside, rrule_language, calendar_scan, calendar_text}
 use Rattle.rr_model.specs.Text.Digits.{is_digit}
 use Rattle.rr_model.specs.Text.Event.{Components, Left, no_components, is_event, is_in_event, after_begin, after_end, used_line, left_with, left_at, left_by, after_used}
 use Rattle.rr_model.specs.Text.Event.{scan_from, scan_of, is_bare_text, event_scan}
@@ -19,7 +20,8 @@ use Rattle.rr_model.specs.Text.Lines.{unfolded_lines, without_mark}
 use Rattle.rr_model.specs.Text.Moments.{is_digits, basic_date, basic_time, is_letter_t, is_letter_z, utc_mark, basic_moment, basic}
 use Rattle.rr_model.specs.Text.Passes.{Beside, nothing_read, nothing_beside, has_slash, date_value, judged_date, judged_line, with_date, with_line}
 use Rattle.rr_model.specs.Text.RuleValues.{◌>>=◌}
-use Rattle.rr_model.specs.Text.Rules.{is_blank, line_value, rule_parts}
+use Rattle.rr_model.specs.Text.Rules.{is_blank, line_value}
+use Rattle.rr_rule_parts.specs.Rules.{rule_parts}
 use Rattle.rr_model.specs.Text.Steps.{in_turn}
 use Rattle.rr_model.specs.Text.UsedLines.{is_name_byte, name_of_line, after_name, is_named, has_quote, after_colon, is_quoted_after, begins_value, trim}
 use Rattle.rr_model.specs.Text.UsedLines.{value_of_line, line_kind}

@@ -5,7 +5,7 @@ use Rattle.std.specs.Prelude.{codes, ok_or}
 use Rattle.std.specs.List.{list_any}
 use Rattle.std.specs.Str.{bytes_eq, str_eq_ignore_ascii_case}
 use Rattle.rr_model.specs.Rule.Validity.{is_absent}
-use Rattle.rr_model.specs.Text.Calendars.{rule_beside, rrule_language, series_of_event, calendar_scan, calendar_text}
+use Rattle.rr_rule_parts.specs.Calendars.{rule_beside, rrule_language, series_of_event, calendar_scan, calendar_text}
 use Rattle.rr_model.specs.Text.Event.{Components, Left, no_components, is_in_event, after_begin, after_end, used_line, left_with, value_on, left_at, left_by, stop_at_end}
 use Rattle.rr_model.specs.Text.Event.{after_used, scan_from, scan_of, is_bare_text, event_scan}
 use Rattle.rr_model.specs.Text.Lines.{physical_lines, unfolded_lines, without_mark}

@@ -6,16 +6,20 @@ use Rattle.std.specs.Option.{is_some}
 use Rattle.rr_model.specs.Moment.{is_same_kind}
 use Rattle.rr_model.specs.Moment.Years.{is_in_years}
 use Rattle.rr_model.specs.Rising.{with_value, day_item_lt}
-use Rattle.rr_model.specs.Text.Calendars.{stated_rule, end_beside, rule_beside, rrule_language, is_comma}
+use Rattle.rr_model.specs.Text.Calendars.{end_beside, is_comma}
+use Rattle.rr_rule_parts.specs.Calendars.{stated_rule, rule_beside, rrule_language}
 use Rattle.rr_model.specs.Text.Digits.{digits_value}
 use Rattle.rr_model.specs.Text.Moments.{basic}
 use Rattle.rr_model.specs.Text.Passes.{Stated, Beside, has_slash, date_value, judged_date, judged_line, judged_rule, local_moment_of, moment_beside, date_beside, with_date, with_rule}
 use Rattle.rr_model.specs.Text.Passes.{with_line}
-use Rattle.rr_model.specs.Text.RuleValues.{◌>>=◌, pieces, freq_named, weekday_named, is_number, number_up_to, rising_values, unsigned_bounds, signed_bounds, second_bounds}
-use Rattle.rr_model.specs.Text.RuleValues.{has_number_form, magnitude, number_within, numbers_of, ordinal_text, weekday_text, is_day_item, ordinal_within}
-use Rattle.rr_model.specs.Text.RuleValues.{day_item_within, day_items_of}
-use Rattle.rr_model.specs.Text.Rules.{split_once, part_named, is_extension, name_of, is_present, with_part_value, with_part, with_parts, no_parts}
-use Rattle.rr_model.specs.Text.Rules.{without_last_semicolon, parts_of, rule_of, rule_parts, has_time, line_value}
+use Rattle.rr_model.specs.Text.RuleValues.{◌>>=◌, pieces, freq_named, weekday_named, is_number, number_up_to, rising_values}
+use Rattle.rr_rule_parts.specs.Values.{unsigned_bounds, signed_bounds, second_bounds}
+use Rattle.rr_rule_parts.specs.Values.{has_number_form, magnitude, number_within, numbers_of, ordinal_text, weekday_text, is_day_item, ordinal_within}
+use Rattle.rr_rule_parts.specs.Values.{day_item_within, day_items_of}
+use Rattle.rr_model.specs.Text.Rules.{split_once}
+use Rattle.rr_rule_parts.specs.Rules.{part_named, is_extension, name_of, is_present, with_part_value, with_part, with_parts, no_parts}
+use Rattle.rr_model.specs.Text.Rules.{has_time, line_value}
+use Rattle.rr_rule_parts.specs.Rules.{without_last_semicolon, parts_of, rule_of, rule_parts}
 use Rattle.rr_model.specs.Text.Steps.{in_turn}
 use Rattle.rr_model.specs.Text.UsedLines.{trim}
 use Rattle.rr_model.specs.declared.limits.TheConstants.{MAX_DATES, MAX_RULES}
@@ -24,10 +28,10 @@ use Rattle.rr_model.specs.declared.pass.FirstPass.{FirstPass}
 use Rattle.rr_model.specs.declared.refusal.Refusal.{Refusal}
 use Rattle.rr_model.specs.declared.rule.End.{End}
 use Rattle.rr_model.specs.declared.rule.Rule.{Rule}
-use Rattle.rr_model.specs.declared.rule_parts.NumberBounds.{NumberBounds}
-use Rattle.rr_model.specs.declared.rule_parts.PartName.{PartName}
-use Rattle.rr_model.specs.declared.rule_parts.PartName.TheVariants as part
-use Rattle.rr_model.specs.declared.rule_parts.RuleParts.{RuleParts}
+use Rattle.rr_rule_parts.specs.declared.rule_parts.NumberBounds.{NumberBounds}
+use Rattle.rr_rule_parts.specs.declared.rule_parts.PartName.{PartName}
+use Rattle.rr_rule_parts.specs.declared.rule_parts.PartName.TheVariants as part
+use Rattle.rr_rule_parts.specs.declared.rule_parts.RuleParts.{RuleParts}
 use Rattle.rr_model.specs.declared.stamp.Stamp.{Stamp}
 use Rattle.rr_model.specs.declared.used.LineName.{LineName}
 use Rattle.rr_model.specs.declared.used.LineName.TheVariants.{Dtstart, Rrule, Rdate, Exdate, Exrule}

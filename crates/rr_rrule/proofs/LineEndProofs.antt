@@ -1,6 +1,6 @@
 -- A carriage return before a line feed changes nothing that a text states.
 use Rattle.std.proofs.Common.{◌≡◌, ℕ, false, List, [], length, ap, ◌∙◌}
-use Rattle.rr_model.specs.Text.Calendars.{calendar_scan, calendar_text}
+use Rattle.rr_rule_parts.specs.Calendars.{calendar_scan, calendar_text}
 use Rattle.rr_model.specs.Text.Event.{event_scan, scan_of, is_bare_text, no_components}
 use Rattle.rr_model.specs.Text.Lines.{physical_lines, with_physical_lines, unfolded_lines, without_mark}
 use Rattle.rr_ical.specs.LineLaws.{with_returns}

@@ -10,11 +10,13 @@ use Rattle.std.proofs.lemmas.Bool.{and_parts, and_from, not-true}
 use Rattle.std.proofs.lemmas.Bool.Decides.{nat_tests}
 use Rattle.std.proofs.lemmas.List.{take_all, length-append, length-map, map-append, reverse-append}
 use Rattle.std.proofs.lemmas.List.Folds.{list_all-append}
-use Rattle.rr_model.specs.Text.Calendars.{stated_rule, rule_beside, rrule_language, series_of_event, calendar_scan, calendar_text}
+use Rattle.rr_rule_parts.specs.Calendars.{stated_rule, rule_beside, rrule_language, series_of_event, calendar_scan, calendar_text}
 use Rattle.rr_model.specs.Text.Event.{used_line}
 use Rattle.rr_model.specs.Text.Passes.{Stated, Beside, Event, nothing_read, nothing_beside, judged_line, first_pass, with_line, passes, put_rule}
-use Rattle.rr_model.specs.Text.Rules.{is_blank, with_part, with_parts, no_parts, without_last_semicolon, trim_start, trim_end, parts_of, rule_of}
-use Rattle.rr_model.specs.Text.Rules.{line_value, rule_parts}
+use Rattle.rr_model.specs.Text.Rules.{is_blank, trim_start, trim_end}
+use Rattle.rr_rule_parts.specs.Rules.{with_part, with_parts, no_parts, without_last_semicolon, parts_of, rule_of}
+use Rattle.rr_model.specs.Text.Rules.{line_value}
+use Rattle.rr_rule_parts.specs.Rules.{rule_parts}
 use Rattle.rr_model.specs.Text.RuleValues.{◌>>=◌, pieces}
 use Rattle.rr_model.specs.Text.Steps.{in_turn}
 use Rattle.rr_model.specs.declared.limits.TheConstants.{MAX_RULES}
@@ -23,7 +25,7 @@ use Rattle.rr_model.specs.declared.refusal.Refusal.{Refusal}
 use Rattle.rr_model.specs.declared.refusal.Refusal.TheVariants.{TooManyParts}
 use Rattle.rr_model.specs.declared.rule.Rule.{Rule}
 use Rattle.rr_model.specs.declared.rule.Series.{Series}
-use Rattle.rr_model.specs.declared.rule_parts.RuleParts.{RuleParts}
+use Rattle.rr_rule_parts.specs.declared.rule_parts.RuleParts.{RuleParts}
 use Rattle.rr_model.specs.declared.stamp.Stamp.{Stamp}
 use Rattle.rr_model.specs.declared.used.LineName.TheVariants.{Rrule}
 use Rattle.rr_model.specs.declared.used.UsedLine.{UsedLine}

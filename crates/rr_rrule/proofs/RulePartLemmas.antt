@@ -4,18 +4,19 @@ use Rattle.std.specs.Prelude.{◌==◌, ok_or}
 use Rattle.std.specs.List.{list_all, onto_first}
 use Rattle.std.proofs.lemmas.Bool.{false≢true}
 use Rattle.rr_model.specs.Text.Moments.{basic}
-use Rattle.rr_model.specs.Text.Rules.{split_once, name_of, is_present, with_part_value, with_part}
+use Rattle.rr_model.specs.Text.Rules.{split_once}
+use Rattle.rr_rule_parts.specs.Rules.{name_of, is_present, with_part_value, with_part}
 use Rattle.rr_model.specs.Rising.{with_value}
-use Rattle.rr_model.specs.Text.RuleValues.{◌>>=◌, pieces, freq_named, weekday_named, number_up_to, unsigned_bounds, signed_bounds, second_bounds, rising_values, list_of, numbers_of}
-use Rattle.rr_model.specs.Text.RuleValues.{day_items_of}
+use Rattle.rr_model.specs.Text.RuleValues.{◌>>=◌, pieces, freq_named, weekday_named, number_up_to, rising_values, list_of}
+use Rattle.rr_rule_parts.specs.Values.{unsigned_bounds, signed_bounds, second_bounds, numbers_of, day_items_of}
 use Rattle.rr_model.specs.Rule.Validity.{is_absent}
 use Rattle.rr_model.specs.declared.refusal.Refusal.{Refusal}
 use Rattle.rr_model.specs.declared.refusal.Refusal.TheVariants.{BadMoment, BadRule, PartTwice}
 use Rattle.rr_model.specs.declared.rule.DayItem.{DayItem}
 use Rattle.rr_model.specs.declared.rule.Freq.{Freq}
-use Rattle.rr_model.specs.declared.rule_parts.PartName.{PartName}
-use Rattle.rr_model.specs.declared.rule_parts.PartName.TheVariants as part
-use Rattle.rr_model.specs.declared.rule_parts.RuleParts.{RuleParts}
+use Rattle.rr_rule_parts.specs.declared.rule_parts.PartName.{PartName}
+use Rattle.rr_rule_parts.specs.declared.rule_parts.PartName.TheVariants as part
+use Rattle.rr_rule_parts.specs.declared.rule_parts.RuleParts.{RuleParts}
 use Rattle.rr_model.specs.declared.stamp.Stamp.{Stamp}
 use Rattle.rr_model.proofs.WithValueLemmas.{with_value-some}
 use Rattle.rr_text.proofs.StepLemmas.{ok_or_ok, and_then_ok, not_refused}

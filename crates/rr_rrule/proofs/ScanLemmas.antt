@@ -1,7 +1,7 @@
 -- The series of used lines, by what the two passes make of these.
 use Rattle.std.proofs.Common.{◌≡◌, List, Option, Result, Ok, ap, ◌∙◌, ℤ}
 use Rattle.std.specs.Prelude.{ok_or}
-use Rattle.rr_model.specs.Text.Calendars.{rule_beside, rrule_language, series_of_event, calendar_scan}
+use Rattle.rr_rule_parts.specs.Calendars.{rule_beside, rrule_language, series_of_event, calendar_scan}
 use Rattle.rr_model.specs.Text.Passes.{Beside, Event, nothing_read, nothing_beside, first_pass, second_pass, unless_stopped}
 use Rattle.rr_model.specs.Text.RuleValues.{◌>>=◌}
 use Rattle.rr_model.specs.declared.pass.FirstPass.{FirstPass}

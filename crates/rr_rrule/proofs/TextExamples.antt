@@ -3,9 +3,11 @@ use Rattle.std.proofs.Common.{◌≡◌, ℕ, List, [], ◌∷◌, ◌++◌, ℤ
 use Rattle.std.specs.Prelude.{codes, None, Ok, Err}
 use Rattle.rr_model.specs.Calendar.{day_number, first_day_of_year, days_of_months}
 use Rattle.rr_model.specs.Text.Moments.{is_digits, number_at, basic, basic_date, basic_time, basic_moment}
-use Rattle.rr_model.specs.Text.RuleValues.{freq_named, weekday_named, number_up_to, number_within, numbers_of, day_item_within, day_items_of}
-use Rattle.rr_model.specs.Text.Rules.{part_named, name_of, with_part, parts_of, rule_of, rule_parts, line_value}
-use Rattle.rr_model.specs.Text.Calendars.{stated_rule, rule_beside, calendar_text}
+use Rattle.rr_model.specs.Text.RuleValues.{freq_named, weekday_named, number_up_to}
+use Rattle.rr_rule_parts.specs.Values.{number_within, numbers_of, day_item_within, day_items_of}
+use Rattle.rr_model.specs.Text.Rules.{line_value}
+use Rattle.rr_rule_parts.specs.Rules.{part_named, name_of, with_part, parts_of, rule_of, rule_parts}
+use Rattle.rr_rule_parts.specs.Calendars.{stated_rule, rule_beside, calendar_text}
 use Rattle.rr_model.specs.Text.Digits.{leading_digits}
 use Rattle.rr_model.specs.Text.Event.{left_by, event_scan}
 use Rattle.rr_model.specs.Text.Lines.{physical_lines, unfolded_lines}

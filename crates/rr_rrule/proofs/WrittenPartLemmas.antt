@@ -8,12 +8,13 @@ use Rattle.std.proofs.lemmas.Bool.{and_parts, and_from}
 use Rattle.std.proofs.lemmas.Bool.Decides.{nat_tests}
 use Rattle.std.proofs.lemmas.List.{map-append, take_at, drop_at}
 use Rattle.rr_model.specs.Rule.Validity.{is_absent}
-use Rattle.rr_model.specs.Text.Rules.{split_once, name_of, is_present, with_parts, no_parts}
+use Rattle.rr_model.specs.Text.Rules.{split_once}
+use Rattle.rr_rule_parts.specs.Rules.{name_of, is_present, with_parts, no_parts}
 use Rattle.rr_model.specs.Text.RuleValues.{◌>>=◌}
 use Rattle.rr_model.specs.Text.Written.{part_text, part_unless, list_part}
 use Rattle.rr_model.specs.declared.refusal.Refusal.{Refusal}
-use Rattle.rr_model.specs.declared.rule_parts.PartName.{PartName}
-use Rattle.rr_model.specs.declared.rule_parts.RuleParts.{RuleParts}
+use Rattle.rr_rule_parts.specs.declared.rule_parts.PartName.{PartName}
+use Rattle.rr_rule_parts.specs.declared.rule_parts.RuleParts.{RuleParts}
 use Rattle.rr_model.proofs.WithValueLemmas.{absent_nil}
 use Rattle.rr_text.proofs.PlainTextLemmas.{capitals-plain}
 use Rattle.rr_text.proofs.WrittenByteLemmas.{is_word_byte, is_value_byte, is_line_byte, has_no, list_all-weaker, list_all-both}

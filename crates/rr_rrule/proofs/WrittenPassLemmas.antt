@@ -9,7 +9,8 @@ use Rattle.std.proofs.lemmas.List.{length_push}
 use Rattle.rr_model.specs.Moment.Years.{IsInYears}
 use Rattle.rr_model.specs.Rising.{Rises}
 use Rattle.rr_model.specs.Rule.Validity.{IsValidRule, EndsInYears}
-use Rattle.rr_model.specs.Text.Calendars.{end_beside, rule_beside, rrule_language}
+use Rattle.rr_model.specs.Text.Calendars.{end_beside}
+use Rattle.rr_rule_parts.specs.Calendars.{rule_beside, rrule_language}
 use Rattle.rr_model.specs.Text.Event.{used_line}
 use Rattle.rr_model.specs.Text.Moments.{basic}
 use Rattle.rr_model.specs.Text.Passes.{Beside, has_slash, date_value, judged_date, judged_dates, judged_line, judged_rule, put_date, with_date, with_dates}

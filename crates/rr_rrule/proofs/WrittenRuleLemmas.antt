@@ -10,10 +10,11 @@ use Rattle.std.proofs.lemmas.Int.{ints}
 use Rattle.std.proofs.lemmas.List.Elements.{recursion_from_All}
 use Rattle.rr_model.specs.Rising.{Rises, day_item_lt}
 use Rattle.rr_model.specs.Rule.Validity.{IsDayItem, HasCountInRange, EndsInYears, IsValidRule, is_absent, is_allowed}
-use Rattle.rr_model.specs.Text.Calendars.{stated_rule}
-use Rattle.rr_model.specs.Text.Rules.{part_named, name_of, with_parts, no_parts, end_of, rule_with, rule_of, rule_parts}
-use Rattle.rr_model.specs.Text.RuleValues.{◌>>=◌, numbers_of, day_items_of, number_within, has_number_form, is_day_item, day_item_within, unsigned_bounds}
-use Rattle.rr_model.specs.Text.RuleValues.{signed_bounds, second_bounds}
+use Rattle.rr_rule_parts.specs.Calendars.{stated_rule}
+use Rattle.rr_rule_parts.specs.Rules.{part_named, name_of, with_parts, no_parts, end_of, rule_with, rule_of, rule_parts}
+use Rattle.rr_model.specs.Text.RuleValues.{◌>>=◌}
+use Rattle.rr_rule_parts.specs.Values.{numbers_of, day_items_of, number_within, has_number_form, is_day_item, day_item_within, unsigned_bounds}
+use Rattle.rr_rule_parts.specs.Values.{signed_bounds, second_bounds}
 use Rattle.rr_model.specs.Text.WriteLaws.{IsOneEnd}
 use Rattle.rr_model.specs.Text.Written.{basic_text, freq_text, weekday_text, day_item_text, part_unless, list_part, end_text, rule_text}
 use Rattle.rr_model.specs.declared.kind.Kind.{Kind}
@@ -24,9 +25,9 @@ use Rattle.rr_model.specs.declared.rule.End.{End}
 use Rattle.rr_model.specs.declared.rule.End.TheVariants.{Never, Until, Count, Both}
 use Rattle.rr_model.specs.declared.rule.Freq.{Freq}
 use Rattle.rr_model.specs.declared.rule.Rule.{Rule}
-use Rattle.rr_model.specs.declared.rule_parts.NumberBounds.{NumberBounds}
-use Rattle.rr_model.specs.declared.rule_parts.PartName.TheVariants as part
-use Rattle.rr_model.specs.declared.rule_parts.RuleParts.{RuleParts}
+use Rattle.rr_rule_parts.specs.declared.rule_parts.NumberBounds.{NumberBounds}
+use Rattle.rr_rule_parts.specs.declared.rule_parts.PartName.TheVariants as part
+use Rattle.rr_rule_parts.specs.declared.rule_parts.RuleParts.{RuleParts}
 use Rattle.rr_model.specs.declared.stamp.Stamp.{Stamp}
 use Rattle.rr_text.proofs.PlainTextLemmas.{capitals-plain}
 use Rattle.rr_text.proofs.WrittenByteLemmas.{is_word_byte, is_value_byte, is_line_byte}
@@ -34,8 +35,10 @@ use Rattle.rr_text.proofs.WrittenByteLemmas.{values-from_words, no_comma-from_wo
 use Rattle.rr_text.proofs.WrittenByteLemmas.{joined-values}
 use Rattle.rr_text.proofs.WrittenLemmas.{basic-written}
 use Rattle.rr_text.proofs.WrittenListLemmas.{IsReadBack, list_of-written}
-use Rattle.rr_text.proofs.WrittenValueLemmas.{freq-written, freq_text-words, weekday-written, number_up_to-written, IsWithin, number_form-written}
-use Rattle.rr_text.proofs.WrittenValueLemmas.{number_within-written, signed_decimal-no_comma, int_lt-transitive, day_item_lt-transitive, day_item-written}
+use Rattle.rr_text.proofs.WrittenValueLemmas.{freq-written, freq_text-words, weekday-written, number_up_to-written}
+use Rattle.rr_rule_parts.proofs.WrittenNumberLemmas.{IsWithin, number_form-written}
+use Rattle.rr_text.proofs.WrittenValueLemmas.{signed_decimal-no_comma, int_lt-transitive, day_item_lt-transitive}
+use Rattle.rr_rule_parts.proofs.WrittenNumberLemmas.{number_within-written, day_item-written}
 use Rattle.rr_rrule.specs.TextLaws.{is_part}
 use Rattle.rr_rrule.proofs.PartOrderLemmas.{rule_parts-join}
 use Rattle.rr_rrule.proofs.WrittenPartLemmas.{IsName, part_states, part_is, part_bytes, IsRuleText, with_part_text, with_part_unless, with_list_part}

@@ -8,13 +8,14 @@ use Rattle.rr_model.specs.Moment.Years.{IsInYears}
 use Rattle.rr_model.specs.Rising.{Rises}
 use Rattle.rr_model.specs.Rule.Validity.{IsValidRule, EndsInYears}
 use Rattle.rr_model.specs.Series.Validity.{IsValidSeries}
-use Rattle.rr_model.specs.Text.Calendars.{rule_beside, rrule_language, series_of_event, calendar_scan, calendar_text, reads_calendar}
+use Rattle.rr_rule_parts.specs.Calendars.{rule_beside, rrule_language, series_of_event, calendar_scan, calendar_text, reads_calendar}
 use Rattle.rr_model.specs.Text.Event.{used_line, event_scan}
 use Rattle.rr_model.specs.Text.Lines.{without_mark}
 use Rattle.rr_model.specs.Text.Passes.{Beside, Event, nothing_read, nothing_beside, first_pass, second_pass, unless_stopped, passes}
 use Rattle.rr_model.specs.Text.RuleValues.{◌>>=◌}
 use Rattle.rr_model.specs.Text.Steps.{in_turn}
-use Rattle.rr_model.specs.Text.WriteLaws.{IsOneEnd, CalendarIsReadBack}
+use Rattle.rr_model.specs.Text.WriteLaws.{IsOneEnd}
+use Rattle.rr_rrule.specs.WriteLaws.{CalendarIsReadBack}
 use Rattle.rr_model.specs.Text.Written.{basic_text, folded_text, folded_line, lines_of, date_line, rule_line, calendar_written}
 use Rattle.rr_model.specs.declared.kind.Kind.{Kind}
 use Rattle.rr_model.specs.declared.pass.FirstPass.{FirstPass}

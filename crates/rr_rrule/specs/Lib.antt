@@ -1,2 +1,3 @@
 pub mod RuleTexts
 pub mod TextLaws
+pub mod WriteLaws

@@ -3,7 +3,7 @@ use Rattle.std.specs.Prelude.{◌≡◌, ℕ, ◌==◌, nat_lt, Bool, false, not
 use Rattle.std.specs.List.{list_all, join_with_byte}
 use Rattle.std.specs.Str.{str_to_ascii_lowercase}
 use Rattle.rr_ical.specs.LineLaws.{HasNoReturn, with_returns}
-use Rattle.rr_model.specs.Text.Calendars.{calendar_text}
+use Rattle.rr_rule_parts.specs.Calendars.{calendar_text}
 use Rattle.rr_model.specs.Text.Event.{event_scan, used_line}
 use Rattle.rr_model.specs.Text.Lines.{without_mark}
 use Rattle.rr_model.specs.Text.Rules.{is_blank, text_after}

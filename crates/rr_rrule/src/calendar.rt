@@ -3,7 +3,7 @@ ghost use Rattle.std.specs.Prelude.{◌≡◌, IfOk};
 ghost use Rattle.rr_model.specs.Answers.{Answers};
 ghost use Rattle.rr_model.specs.Moment.Years.{IsInYears};
 ghost use Rattle.rr_model.specs.Series.Validity.{IsValidSeries};
-ghost use Rattle.rr_model.specs.Text.Calendars.{series_of_event, calendar_scan, calendar_text, reads_calendar};
+ghost use Rattle.rr_rule_parts.specs.Calendars.{series_of_event, calendar_scan, calendar_text, reads_calendar};
 
 use crate::stated::{rule_beside, stated_rule};
 use rr_ical::{ReadEvent, RuleLanguage, Setting, StatedRule, event_lines, event_of};
@@ -15,7 +15,7 @@ use std::alloc::Global;
 struct RruleLanguage;
 
 impl RuleLanguage<Rule> for RruleLanguage {
-    ghost use Rattle.rr_model.specs.Text.Calendars.{rrule_language, rule_beside};
+    ghost use Rattle.rr_rule_parts.specs.Calendars.{rrule_language, rule_beside};
 
     ghost language = { rrule_language };
 
@@ -80,7 +80,7 @@ pub fn read_scan(alloc: Global, offset: Option<i32>, scan: &Scan) -> Result<Seri
     Ok(series_of(alloc, event)?)
 }
 
-#[tactic(auto, unfolding(rr_model::specs::Text::Calendars::calendar_text))]
+#[tactic(auto, unfolding(rr_rule_parts::specs::Calendars::calendar_text))]
 fn read_text(alloc: Global, offset: Option<i32>, text: &[u8]) -> Result<Series, Fault>
     ensures { Answers (calendar_text offset text.now) result }
 {
@@ -102,7 +102,7 @@ fn read_text(alloc: Global, offset: Option<i32>, text: &[u8]) -> Result<Series, 
 /// Then line by line beside the start, of each date `MixedKinds`, of each date and UNTIL `UtcMoment` without an offset,
 /// `BadMoment` if the offset leaves the years 1 to 9999, and of a rule finer than DAILY beside a date `NotAllowed`.
 /// A refusal names the first physical line of the line at fault.
-#[tactic(auto, unfolding(rr_model::specs::Text::Calendars::reads_calendar))]
+#[tactic(auto, unfolding(rr_rule_parts::specs::Calendars::reads_calendar))]
 pub fn read(alloc: Global, bytes: &[u8], offset: Option<i32>) -> Result<Series, Fault>
     ensures answers { Answers (reads_calendar offset bytes.now) result }
     ensures valid { IfOk result IsValidSeries }

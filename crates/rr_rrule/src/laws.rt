@@ -1,5 +1,5 @@
 // Laws of what a calendar text states, each the contract of a function that does nothing.
-ghost use Rattle.rr_model.specs.Text.WriteLaws.{CalendarIsReadBack};
+ghost use Rattle.rr_rrule.specs.WriteLaws.{CalendarIsReadBack};
 ghost use Rattle.rr_rrule.specs.TextLaws.{CaseDoesNotMatter, FoldingDoesNotMatter, LineEndsDoNotMatter, OrderDoesNotMatter};
 
 /// Texts that differ in the case of letters alone, be it of names, of values or of parts of a rule, state one series, or

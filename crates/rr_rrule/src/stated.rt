@@ -1,16 +1,16 @@
 // The rule that a line states, and what it becomes beside the start (RFC 5545, section 3.3.10).
 ghost use Rattle.std.specs.Prelude.{◌≡◌};
 ghost use Rattle.rr_model.specs.Answers.{Answers};
-ghost use Rattle.rr_model.specs.Text.Calendars.{stated_rule, rule_beside};
-ghost use Rattle.rr_model.specs.Text.Rules.{rule_parts};
+ghost use Rattle.rr_rule_parts.specs.Calendars.{stated_rule, rule_beside};
+ghost use Rattle.rr_rule_parts.specs.Rules.{rule_parts};
 
 use rr_ical::{StatedRule, end_beside};
-use rr_model::{Fault, Refusal, Rule, RuleParts, Stamp};
-use rr_rule_parts::{parts_of, rule_of, takes_start};
+use rr_model::{Fault, Refusal, Rule, Stamp};
+use rr_rule_parts::{RuleParts, parts_of, rule_of, takes_start};
 use rr_text::line_value;
 use std::alloc::Global;
 
-#[tactic(auto, unfolding(rr_model::specs::Text::Rules::rule_parts))]
+#[tactic(auto, unfolding(rr_rule_parts::specs::Rules::rule_parts))]
 fn rule_parts(alloc: Global, line: u64, text: &[u8]) -> Result<RuleParts, Fault>
     ensures { Answers (rule_parts line text.now) result }
 {
@@ -19,7 +19,7 @@ fn rule_parts(alloc: Global, line: u64, text: &[u8]) -> Result<RuleParts, Fault>
 }
 
 /// The rule that the value of a line states.
-#[tactic(auto, unfolding(rr_model::specs::Text::Calendars::stated_rule))]
+#[tactic(auto, unfolding(rr_rule_parts::specs::Calendars::stated_rule))]
 pub(crate) fn stated_rule(alloc: Global, line: u64, text: &[u8]) -> Result<StatedRule<Rule>, Fault>
     ensures { Answers (stated_rule line text.now) result }
 {
@@ -30,7 +30,7 @@ pub(crate) fn stated_rule(alloc: Global, line: u64, text: &[u8]) -> Result<State
 }
 
 /// The rule beside the start: its UNTIL, then whether it takes a start of this kind.
-#[tactic(auto, unfolding(rr_model::specs::Text::Calendars::rule_beside))]
+#[tactic(auto, unfolding(rr_rule_parts::specs::Calendars::rule_beside))]
 pub(crate) fn rule_beside(
     offset: Option<i32>,
     start: Stamp,

@@ -8,13 +8,14 @@ use Rattle.std.proofs.lemmas.Bool.Decides.{nat_tests}
 use Rattle.std.proofs.lemmas.Int.{ints}
 use Rattle.std.proofs.lemmas.List.Elements.{All-nil}
 use Rattle.rr_model.specs.Rising.{with_value, day_item_lt}
-use Rattle.rr_model.specs.Text.RuleValues.{is_number, weekday_named, rising_values, pieces, list_of, signed_bounds, has_number_form, magnitude}
-use Rattle.rr_model.specs.Text.RuleValues.{number_within, numbers_of, is_day_item, ordinal_text, weekday_text, ordinal_within, day_item_within, day_items_of}
+use Rattle.rr_model.specs.Text.RuleValues.{is_number, weekday_named, pieces, rising_values, list_of}
+use Rattle.rr_rule_parts.specs.Values.{signed_bounds, has_number_form, magnitude}
+use Rattle.rr_rule_parts.specs.Values.{number_within, numbers_of, is_day_item, ordinal_text, weekday_text, ordinal_within, day_item_within, day_items_of}
 use Rattle.rr_model.specs.Rule.Validity.{LieFrom, CountUpTo, IsDayItem}
 use Rattle.rr_model.specs.declared.refusal.Refusal.{Refusal}
 use Rattle.rr_model.specs.declared.refusal.Refusal.TheVariants.{BadRule}
 use Rattle.rr_model.specs.declared.rule.DayItem.{DayItem}
-use Rattle.rr_model.specs.declared.rule_parts.NumberBounds.{NumberBounds}
+use Rattle.rr_rule_parts.specs.declared.rule_parts.NumberBounds.{NumberBounds}
 use Rattle.rr_model.proofs.RisingLemmas.{All-with_value}
 use Rattle.rr_text.proofs.StepLemmas.{and_then_ok, ok_or_ok, step_keeps, passed}
 use Rattle.rr_text.proofs.WordLemmas.{weekday_named-below}

@@ -4,15 +4,18 @@ use Rattle.std.specs.Prelude.{All, int_lt, ok_or}
 use Rattle.std.specs.Option.{IfSome}
 use Rattle.std.proofs.lemmas.List.Elements.{All-nil}
 use Rattle.rr_model.specs.Text.Moments.{basic}
-use Rattle.rr_model.specs.Text.Rules.{split_once, name_of, is_present, with_part_value, with_part, with_parts, no_parts, without_last_semicolon, parts_of}
-use Rattle.rr_model.specs.Text.Rules.{line_value, rule_parts}
-use Rattle.rr_model.specs.Text.RuleValues.{freq_named, weekday_named, number_up_to, unsigned_bounds, signed_bounds, second_bounds, numbers_of, day_items_of, pieces}
+use Rattle.rr_model.specs.Text.Rules.{split_once}
+use Rattle.rr_rule_parts.specs.Rules.{name_of, is_present, with_part_value, with_part, with_parts, no_parts, without_last_semicolon, parts_of}
+use Rattle.rr_model.specs.Text.Rules.{line_value}
+use Rattle.rr_rule_parts.specs.Rules.{rule_parts}
+use Rattle.rr_model.specs.Text.RuleValues.{freq_named, weekday_named, number_up_to, pieces}
+use Rattle.rr_rule_parts.specs.Values.{unsigned_bounds, signed_bounds, second_bounds, numbers_of, day_items_of}
 use Rattle.rr_model.specs.Rule.Validity.{IsCount, LieFrom, CountUpTo, IsDayItem}
 use Rattle.rr_model.specs.Rising.{Rises, day_item_lt}
 use Rattle.rr_model.specs.declared.refusal.Refusal.TheVariants.{BadMoment, BadRule, PartTwice}
-use Rattle.rr_model.specs.declared.rule_parts.PartName.{PartName}
-use Rattle.rr_model.specs.declared.rule_parts.PartName.TheVariants as part
-use Rattle.rr_model.specs.declared.rule_parts.RuleParts.{RuleParts}
+use Rattle.rr_rule_parts.specs.declared.rule_parts.PartName.{PartName}
+use Rattle.rr_rule_parts.specs.declared.rule_parts.PartName.TheVariants as part
+use Rattle.rr_rule_parts.specs.declared.rule_parts.RuleParts.{RuleParts}
 use Rattle.rr_text.proofs.StepLemmas.{and_then_ok, ok_or_ok, step_keeps, not_refused}
 use Rattle.rr_text.proofs.InYearsLemmas.{basic-stamp}
 use Rattle.rr_rule_parts.proofs.ValidRisingLemmas.{numbers_of-rise, day_items_of-rise}

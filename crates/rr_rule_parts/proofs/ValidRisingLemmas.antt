@@ -3,10 +3,11 @@ use Rattle.std.proofs.Common.{◌≡◌, ℕ, Bool, List, [], ◌∷◌, Result,
 use Rattle.std.specs.Prelude.{int_lt}
 use Rattle.std.specs.List.{list_all}
 use Rattle.rr_model.specs.Rising.{Rises, with_value, day_item_lt}
-use Rattle.rr_model.specs.Text.RuleValues.{rising_values, pieces, list_of, has_number_form, number_within, numbers_of, is_day_item, day_item_within, day_items_of}
+use Rattle.rr_model.specs.Text.RuleValues.{pieces, rising_values, list_of}
+use Rattle.rr_rule_parts.specs.Values.{has_number_form, number_within, numbers_of, is_day_item, day_item_within, day_items_of}
 use Rattle.rr_model.specs.declared.refusal.Refusal.{Refusal}
 use Rattle.rr_model.specs.declared.rule.DayItem.{DayItem}
-use Rattle.rr_model.specs.declared.rule_parts.NumberBounds.{NumberBounds}
+use Rattle.rr_rule_parts.specs.declared.rule_parts.NumberBounds.{NumberBounds}
 use Rattle.rr_model.proofs.RisingLemmas.{Rises-with_value}
 use Rattle.rr_text.proofs.StepLemmas.{and_then_ok, passed}
 

@@ -3,14 +3,14 @@ use Rattle.std.proofs.Common.{◌≡◌, ℕ, ◌<◌, ◌≤◌, Option, None, 
 use Rattle.std.specs.Prelude.{IsTrue, unwrap_or, ok_or}
 use Rattle.std.specs.Option.{IfSome}
 use Rattle.rr_model.specs.Rule.Validity.{IsCount, HasCountInRange, is_allowed, takes_start, IsValidRule, EndsInYears}
-use Rattle.rr_model.specs.Text.Rules.{end_of, rule_with, rule_of}
+use Rattle.rr_rule_parts.specs.Rules.{end_of, rule_with, rule_of}
 use Rattle.rr_model.specs.declared.kind.Kind.{Kind}
 use Rattle.rr_model.specs.declared.refusal.Refusal.TheVariants.{BadRule, NotAllowed}
 use Rattle.rr_model.specs.declared.rule.End.{End}
 use Rattle.rr_model.specs.declared.rule.End.TheVariants.{Never, Until, Count}
 use Rattle.rr_model.specs.declared.rule.Freq.{Freq}
 use Rattle.rr_model.specs.declared.rule.Rule.{Rule}
-use Rattle.rr_model.specs.declared.rule_parts.RuleParts.{RuleParts}
+use Rattle.rr_rule_parts.specs.declared.rule_parts.RuleParts.{RuleParts}
 use Rattle.rr_model.specs.declared.stamp.Stamp.{Stamp}
 use Rattle.rr_text.proofs.StepLemmas.{and_then_ok, passed, unwrap_or-keeps}
 use Rattle.rr_text.specs.Stamps.{IsStamp}

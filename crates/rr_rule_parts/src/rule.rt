@@ -1,9 +1,10 @@
 // A rule of its parts.
 ghost use Rattle.std.specs.Prelude.{◌≡◌};
 ghost use Rattle.rr_model.specs.Rule.Validity.{has_ordinals, has_part, takes_ordinals, takes_week_numbers, takes_month_days, takes_year_days, is_allowed, takes_start};
-ghost use Rattle.rr_model.specs.Text.Rules.{end_of, rule_with, rule_of};
+ghost use Rattle.rr_rule_parts.specs.Rules.{end_of, rule_with, rule_of};
 
-use rr_model::{DayItems, End, Freq, Kind, Refusal, Rule, RuleParts, Stamp};
+use crate::RuleParts;
+use rr_model::{DayItems, End, Freq, Kind, Refusal, Rule, Stamp};
 
 fn has_ordinals(items: &DayItems) -> bool
     ensures { result ≡ has_ordinals items.now }
@@ -86,7 +87,7 @@ pub fn end_of(until: Option<Stamp>, count: Option<u64>) -> Result<End, Refusal>
     }
 }
 
-/// A rule of these parts, with an interval of 1 and weeks from Monday on where they are absent.
+/// A rule of these parts, with an interval of 1 if INTERVAL is absent, and weeks from Monday on if WKST is absent.
 pub fn rule_with(freq: Freq, end: End, parts: RuleParts) -> Rule
     ensures { result ≡ rule_with freq end parts }
 {
@@ -109,7 +110,7 @@ pub fn rule_with(freq: Freq, end: End, parts: RuleParts) -> Rule
 
 /// The rule of these parts, judged after its last part: `BadRule` without FREQ, `UntilAndCount` for UNTIL beside COUNT,
 /// `NotAllowed` for parts that may not stand together.
-#[tactic(auto, unfolding(rr_model::specs::Text::Rules::rule_of))]
+#[tactic(auto, unfolding(crate::specs::Rules::rule_of))]
 pub fn rule_of(line: u64, parts: RuleParts) -> Result<Rule, Refusal>
     ensures { result ≡ rule_of line parts }
 {

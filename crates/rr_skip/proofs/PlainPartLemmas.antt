@@ -4,14 +4,16 @@ use Rattle.std.specs.Prelude.{codes, filter, int_lt, ok_or}
 use Rattle.std.specs.List.{list_all}
 use Rattle.std.specs.Str.{bytes_eq}
 use Rattle.rr_model.specs.Rising.{with_value}
-use Rattle.rr_model.specs.Text.RuleValues.{◌>>=◌, pieces, rising_values, number_within, numbers_of, signed_bounds, has_number_form}
-use Rattle.rr_model.specs.Text.Rules.{split_once, part_named, is_extension, name_of, is_present, with_part_value, with_part, with_parts, parts_of, rule_parts}
+use Rattle.rr_model.specs.Text.RuleValues.{◌>>=◌, pieces, rising_values}
+use Rattle.rr_rule_parts.specs.Values.{number_within, numbers_of, signed_bounds, has_number_form}
+use Rattle.rr_model.specs.Text.Rules.{split_once}
+use Rattle.rr_rule_parts.specs.Rules.{part_named, is_extension, name_of, is_present, with_part_value, with_part, with_parts, parts_of, rule_parts}
 use Rattle.rr_model.specs.Text.Steps.{in_turn}
 use Rattle.rr_model.specs.declared.refusal.Refusal.{Refusal}
 use Rattle.rr_model.specs.declared.refusal.Refusal.TheVariants.{BadRule, PartTwice, Extended}
-use Rattle.rr_model.specs.declared.rule_parts.PartName.{PartName}
-use Rattle.rr_model.specs.declared.rule_parts.PartName.TheVariants as part
-use Rattle.rr_model.specs.declared.rule_parts.RuleParts.{RuleParts}
+use Rattle.rr_rule_parts.specs.declared.rule_parts.PartName.{PartName}
+use Rattle.rr_rule_parts.specs.declared.rule_parts.PartName.TheVariants as part
+use Rattle.rr_rule_parts.specs.declared.rule_parts.RuleParts.{RuleParts}
 use Rattle.rr_text.proofs.StepLemmas.{and_then_ok, ok_or_ok, passed, not_refused}
 use Rattle.rr_skip.specs.Parts.{is_taken, taken_part, scale_part_named, has_scale_part, with_scale, is_scale_name, skip_named, front_day, front_days, with_taken_value, with_scale_value}
 use Rattle.rr_skip.specs.Parts.{with_scale_part, no_scale_parts, scale_parts_of, scale_parts}

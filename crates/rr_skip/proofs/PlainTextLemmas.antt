@@ -11,12 +11,13 @@ use Rattle.rr_model.specs.Rule.Validity.{HasCountInRange, is_allowed, takes_star
 use Rattle.rr_model.specs.Series.Occurrences.{Occurs, IsMemberOfSome}
 use Rattle.rr_model.specs.Series.Soundness.{EndsNotBefore}
 use Rattle.rr_model.specs.Whole.Count.{count_from}
-use Rattle.rr_model.specs.Text.Calendars.{stated_rule, rule_beside, rrule_language, end_beside, calendar_scan, calendar_text}
+use Rattle.rr_model.specs.Text.Calendars.{end_beside}
+use Rattle.rr_rule_parts.specs.Calendars.{stated_rule, rule_beside, rrule_language, calendar_scan, calendar_text}
 use Rattle.rr_model.specs.Text.Event.{used_line}
 use Rattle.rr_model.specs.Text.Passes.{Stated, Language, Beside, Event, nothing_read, nothing_beside, judged_start, judged_rule, judged_line, first_pass, with_rule, with_line, second_pass}
 use Rattle.rr_model.specs.Text.Passes.{unless_stopped, passes}
 use Rattle.rr_model.specs.Text.RuleValues.{◌>>=◌}
-use Rattle.rr_model.specs.Text.Rules.{end_of, rule_with, rule_of}
+use Rattle.rr_rule_parts.specs.Rules.{end_of, rule_with, rule_of}
 use Rattle.rr_model.specs.Text.Steps.{in_turn}
 use Rattle.rr_model.specs.Text.WriteLaws.{IsOneEnd}
 use Rattle.rr_model.specs.declared.kind.Kind.{Kind}
@@ -28,7 +29,7 @@ use Rattle.rr_model.specs.declared.rule.End.{End}
 use Rattle.rr_model.specs.declared.rule.End.TheVariants.{Never, Until, Count, Both}
 use Rattle.rr_model.specs.declared.rule.Freq.{Freq}
 use Rattle.rr_model.specs.declared.rule.Rule.{Rule}
-use Rattle.rr_model.specs.declared.rule_parts.RuleParts.{RuleParts}
+use Rattle.rr_rule_parts.specs.declared.rule_parts.RuleParts.{RuleParts}
 use Rattle.rr_model.specs.declared.rule.Series.{Series}
 use Rattle.rr_model.specs.declared.stamp.Stamp.{Stamp}
 use Rattle.rr_model.specs.declared.used.LineName.{LineName}

@@ -16,8 +16,10 @@ use Rattle.rr_model.specs.Text.Event.{event_scan}
 use Rattle.rr_model.specs.Text.Lines.{without_mark}
 use Rattle.rr_model.specs.Text.Moments.{basic}
 use Rattle.rr_model.specs.Text.Passes.{Event, Stated, moment_beside, passes}
-use Rattle.rr_model.specs.Text.RuleValues.{pieces, freq_named, weekday_named, number_up_to, numbers_of, number_within, unsigned_bounds, signed_bounds, has_number_form}
-use Rattle.rr_model.specs.Text.Rules.{split_once, part_named, no_parts, without_last_semicolon, line_value, end_of, rule_with}
+use Rattle.rr_model.specs.Text.RuleValues.{pieces, freq_named, weekday_named, number_up_to}
+use Rattle.rr_rule_parts.specs.Values.{numbers_of, number_within, unsigned_bounds, signed_bounds, has_number_form}
+use Rattle.rr_model.specs.Text.Rules.{split_once, line_value}
+use Rattle.rr_rule_parts.specs.Rules.{part_named, no_parts, without_last_semicolon, end_of, rule_with}
 use Rattle.rr_model.specs.Text.WriteLaws.{IsOneEnd}
 use Rattle.rr_model.specs.declared.kind.Kind.{Kind}
 use Rattle.rr_model.specs.declared.kind.Kind.TheVariants.{Days, Moments}
@@ -28,9 +30,9 @@ use Rattle.rr_model.specs.declared.rule.End.{End}
 use Rattle.rr_model.specs.declared.rule.End.TheVariants.{Never, Until, Count, Both}
 use Rattle.rr_model.specs.declared.rule.Freq.{Freq}
 use Rattle.rr_model.specs.declared.rule.Freq.TheVariants.{Secondly, Minutely, Hourly, Daily, Weekly, Monthly, Yearly}
-use Rattle.rr_model.specs.declared.rule_parts.PartName.{PartName}
-use Rattle.rr_model.specs.declared.rule_parts.PartName.TheVariants as part
-use Rattle.rr_model.specs.declared.rule_parts.RuleParts.{RuleParts}
+use Rattle.rr_rule_parts.specs.declared.rule_parts.PartName.{PartName}
+use Rattle.rr_rule_parts.specs.declared.rule_parts.PartName.TheVariants as part
+use Rattle.rr_rule_parts.specs.declared.rule_parts.RuleParts.{RuleParts}
 use Rattle.rr_model.specs.declared.stamp.Stamp.{Stamp}
 use Rattle.rr_model.specs.declared.used.Scan.{Scan}
 use Rattle.rr_check.proofs.SoundnessLemmas.{end_fits}

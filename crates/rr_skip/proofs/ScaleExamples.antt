@@ -4,8 +4,10 @@ use Rattle.std.specs.Prelude.{codes, None, Some, Ok, Err}
 use Rattle.rr_model.specs.Calendar.{day_number, first_day_of_year, days_of_months, year_of, days_into_year, months_over, month_of, day_of_month}
 use Rattle.rr_model.specs.Rule.Plain.{plain_rule}
 use Rattle.rr_model.specs.Text.Moments.{is_digits, number_at, basic, basic_date, basic_time, basic_moment}
-use Rattle.rr_model.specs.Text.RuleValues.{freq_named, weekday_named, number_up_to, number_within, numbers_of}
-use Rattle.rr_model.specs.Text.Rules.{part_named, line_value}
+use Rattle.rr_model.specs.Text.RuleValues.{freq_named, weekday_named, number_up_to}
+use Rattle.rr_rule_parts.specs.Values.{number_within, numbers_of}
+use Rattle.rr_model.specs.Text.Rules.{line_value}
+use Rattle.rr_rule_parts.specs.Rules.{part_named}
 use Rattle.rr_model.specs.Text.Event.{left_by, event_scan}
 use Rattle.rr_model.specs.Text.Lines.{physical_lines, unfolded_lines}
 use Rattle.rr_model.specs.Text.UsedLines.{value_of_line, line_kind}

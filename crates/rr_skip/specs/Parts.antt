@@ -4,16 +4,18 @@ use Rattle.std.specs.Prelude.{ok_or, unwrap_or, Result, Ok, Err}
 use Rattle.std.specs.List.{list_all}
 use Rattle.std.specs.Option.{is_some}
 use Rattle.std.specs.Str.{bytes_eq}
-use Rattle.rr_model.specs.Text.RuleValues.{◌>>=◌, pieces, in_table, list_of, has_number_form, number_within, signed_bounds}
-use Rattle.rr_model.specs.Text.Rules.{split_once, part_named, is_present, with_part_value, no_parts, without_last_semicolon, line_value, end_of, rule_with}
+use Rattle.rr_model.specs.Text.RuleValues.{◌>>=◌, pieces, in_table, list_of}
+use Rattle.rr_rule_parts.specs.Values.{has_number_form, number_within, signed_bounds}
+use Rattle.rr_model.specs.Text.Rules.{split_once, line_value}
+use Rattle.rr_rule_parts.specs.Rules.{part_named, is_present, with_part_value, no_parts, without_last_semicolon, end_of, rule_with}
 use Rattle.rr_model.specs.Text.Steps.{in_turn}
 use Rattle.rr_model.specs.Text.UsedLines.{is_name_byte}
 use Rattle.rr_model.specs.declared.refusal.Refusal.{Refusal}
 use Rattle.rr_model.specs.declared.refusal.Refusal.TheVariants.{BadRule, PartTwice, Extended}
 use Rattle.rr_model.specs.declared.rule.Freq.{Freq}
-use Rattle.rr_model.specs.declared.rule_parts.PartName.{PartName}
-use Rattle.rr_model.specs.declared.rule_parts.PartName.TheVariants as part
-use Rattle.rr_model.specs.declared.rule_parts.RuleParts.{RuleParts}
+use Rattle.rr_rule_parts.specs.declared.rule_parts.PartName.{PartName}
+use Rattle.rr_rule_parts.specs.declared.rule_parts.PartName.TheVariants as part
+use Rattle.rr_rule_parts.specs.declared.rule_parts.RuleParts.{RuleParts}
 use Rattle.rr_skip.specs.Validity.{takes_skip}
 use Rattle.rr_skip.specs.declared.parts.ScalePart.{ScalePart}
 use Rattle.rr_skip.specs.declared.parts.ScalePart.TheVariants.{Scale, Skipping, Of}

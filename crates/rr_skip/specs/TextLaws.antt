@@ -1,11 +1,12 @@
 -- A law of what a calendar text states whose rule has RSCALE (RFC 7529, section 4.1).
 use Rattle.std.specs.Prelude.{◌≡◌, ◌↔◌, ℕ, Bool, true, false, not, ⊤, ℤ, List, ◌∷◌, ◌++◌, Option, None, Some, Ok, filter}
 use Rattle.rr_model.specs.Series.Occurrences.{Occurs}
-use Rattle.rr_model.specs.Text.Calendars.{calendar_text}
+use Rattle.rr_rule_parts.specs.Calendars.{calendar_text}
 use Rattle.rr_model.specs.Text.Event.{event_scan, used_line}
 use Rattle.rr_model.specs.Text.Lines.{without_mark}
 use Rattle.rr_model.specs.Text.RuleValues.{pieces}
-use Rattle.rr_model.specs.Text.Rules.{split_once, is_extension, without_last_semicolon, line_value}
+use Rattle.rr_model.specs.Text.Rules.{split_once, line_value}
+use Rattle.rr_rule_parts.specs.Rules.{is_extension, without_last_semicolon}
 use Rattle.rr_model.specs.declared.kind.Kind.{Kind}
 use Rattle.rr_model.specs.declared.refusal.Refusal.{Refusal}
 use Rattle.rr_model.specs.declared.rule.Series.{Series}

@@ -10,10 +10,10 @@ ghost use Rattle.rr_skip.specs.Parts.{front_day, front_days, has_scale_part, is_
 ghost use Rattle.rr_skip.specs.Parts.{scale_parts, scale_parts_of, skip_named, with_scale, with_scale_part, with_scale_value, with_taken_value};
 
 use crate::Skip;
-use rr_model::{Fault, NumberBounds, Numbers, PartName, Refusal, RuleParts};
+use rr_model::{Fault, Numbers, Refusal};
 use rr_rule_parts::{
-    have_number_form, is_present, no_parts, number_within, part_named, put_part_value,
-    without_last_semicolon,
+    NumberBounds, PartName, RuleParts, have_number_form, is_present, no_parts, number_within,
+    part_named, put_part_value, without_last_semicolon,
 };
 use rr_text::{is_word, line_value, split_once};
 use std::alloc::Global;

@@ -31,7 +31,7 @@ is_line_byte b = nat_le 44 b && nat_le b 90
 abbrev pub has_no : ℕ → List ℕ → Bool
 has_no b text = list_all (λ c. not (c == b)) text
 
--- a test that passes where another does
+-- a test that passes if another does
 pub list_all-weaker : {X : Type 0} (p q : X → Bool) → ((x : X) → p x ≡ true → q x ≡ true) → (xs : List X) → list_all p xs ≡ true → list_all q xs ≡ true
 list_all-weaker p q weaker [] h = refl
 list_all-weaker p q weaker (x ∷ xs) h =

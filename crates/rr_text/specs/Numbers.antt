@@ -6,7 +6,7 @@ use Rattle.rr_model.specs.Text.Digits.{leading_digits}
 abbrev pub ExceedsU64 : ℕ → Type 0
 ExceedsU64 n = 18_446_744_073_709_551_615 < n
 
--- the number, or the greatest of 64 bits where it is above that
+-- the number, or the greatest of 64 bits if it is above that
 abbrev pub saturated_u64 : ℕ → ℕ
 saturated_u64 n = min n 18_446_744_073_709_551_615
 

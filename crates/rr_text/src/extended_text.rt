@@ -43,7 +43,7 @@ fn count_zeros(text: &[u8]) -> usize
     text.iter().take_while(|b| **b == b'0').count()
 }
 
-// What follows a fraction of zeros, or the text where none begins.
+// What follows a fraction of zeros, or the text if none begins.
 fn after_fraction(text: &[u8]) -> Option<&[u8]>
     ensures { option_map (λ rest. rest.now) result ≡ after_fraction text.now }
 {

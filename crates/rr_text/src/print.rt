@@ -13,7 +13,7 @@ use itoa::Buffer;
 use rr_cal::date_of;
 use rr_model::{Kind, NoMemory, day_part, second_part};
 
-/// Appends the number in decimal digits, with `-` before them where it is below 0.
+/// Appends the number in decimal digits, with `-` before them if it is below 0.
 pub fn push_number(out: &mut Vec<u8>, value: i64) -> Result<(), NoMemory>
     ensures ok { OnOk result (Appends out.old out.new (signed_decimal value)) }
     ensures err { OnErr result (out.new.items ≡ out.old.items) }

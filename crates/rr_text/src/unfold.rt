@@ -89,7 +89,7 @@ pub fn lines_from(
 /// The unfolded lines of the bytes, each with the number of its first physical line, from 1.
 ///
 /// A physical line ends with CR LF or LF, or with the end of the text. One that begins with a blank or a tab
-/// continues the line before it, if there is one. That byte is removed (RFC 5545, section 3.1), or kept where
+/// continues the line before it, if there is one. That byte is removed (RFC 5545, section 3.1), or kept if
 /// `keep_blank` says so (vCalendar 1.0, section 2.1.3). No byte is copied more than twice.
 #[tactic(auto, unfolding(rr_model::specs::Text::Lines::unfolded_lines))]
 pub fn lines(alloc: Global, bytes: &[u8], keep_blank: bool) -> Result<LineList, NoMemory>

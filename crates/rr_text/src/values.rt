@@ -36,7 +36,7 @@ fn has_small_letter(text: &[u8]) -> bool
     text.iter().any(|b| b.is_ascii_lowercase())
 }
 
-/// The value of a line: in capitals, without the blanks and tabs around it. Nothing is copied where no letter of it is small.
+/// The value of a line: in capitals, without the blanks and tabs around it. Nothing is copied if no letter of it is small.
 pub fn line_value<'a>(alloc: Global, text: &'a [u8]) -> Result<CowSlice<'a, u8>, NoMemory>
     ensures { IfOk result (λ value. cow_slice_items value ≡ line_value text.now) }
 {
@@ -47,7 +47,7 @@ pub fn line_value<'a>(alloc: Global, text: &'a [u8]) -> Result<CowSlice<'a, u8>,
     Ok(CowSlice::Borrowed(value))
 }
 
-/// The date or moment that a text states; `BadMoment` comes where it states none.
+/// The date or moment that a text states; `BadMoment` comes if it states none.
 pub fn moment_of(line: u64, text: &[u8]) -> Result<Stamp, Refusal>
     ensures { result ≡ ok_or (basic text.now) (BadMoment line) }
 {

@@ -38,7 +38,7 @@ pub fn whole_number(text: &[u8]) -> Option<Digits>
     }
 }
 
-// The number, where it is from 1 up to `most`.
+// The number, if it is from 1 up to `most`.
 fn up_to(line: u64, most: u64, n: u64) -> Result<u64, Refusal>
     ensures value { result ≡ up_to line most n }
     ensures bound { IfOk result (λ n. n ≤ most) }

@@ -38,7 +38,7 @@ pub fn weekday_named(text: &[u8]) -> Option<u8>
     }
 }
 
-/// The weekday that two capitals name, from 0 for Monday; `BadRule` comes where they name none.
+/// The weekday that two capitals name, from 0 for Monday; `BadRule` comes if they name none.
 pub fn weekday_of(line: u64, text: &[u8]) -> Result<u8, Refusal>
     ensures { result ≡ ok_or (weekday_named text.now) (BadRule line) }
 {

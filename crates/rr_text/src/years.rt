@@ -10,7 +10,7 @@ fn is_in_years(at: i64) -> bool
     at >= -62_135_596_800 && at < 253_402_300_800
 }
 
-/// The second number that is later by an offset in seconds, where it lies in the years 1 to 9999.
+/// The second number that is later by an offset in seconds, if it lies in the years 1 to 9999.
 pub fn later_in_years(at: i64, offset: i32) -> Option<i64>
     ensures value { result
         ≡ (if is_in_years Moments (at +ℤ offset) then Some (at +ℤ offset) else None) }

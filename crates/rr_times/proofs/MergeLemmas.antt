@@ -124,7 +124,7 @@ module _ (a b : List ℕ) (ra : Rises nat_lt a) (rb : Rises nat_lt b) (out : Lis
         (λ p. (p, all_below a ra i m.bound s m.of_a l p.0)),
       ))
 
--- where neither list's next comes first, both have the same next
+-- if neither list's next comes first, both have the same next
 pub neither_first : (a b : List ℕ) (i j : ℕ)
     → ((i < length a) × (j < length b → get_or a i 0 < get_or b j 0) → ⊥)
     → ((j < length b) × (i < length a → get_or b j 0 < get_or a i 0) → ⊥)

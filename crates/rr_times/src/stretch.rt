@@ -6,7 +6,7 @@ ghost use Rattle.rr_times.specs.Items.{item_at, row_end, stretch_of};
 /// Seconds of a day in a row, each a step above the one before it.
 #[derive(Clone, Copy, Debug, PartialEq, Eq)]
 pub struct Stretch {
-    /// The first second.
+    /// The first second of the day in it, from 0 on.
     pub start: u32,
     /// How far each lies above the one before it; 0 for a second alone.
     pub step: u32,

@@ -20,7 +20,7 @@ use std::marker::Model;
 
 /// A set of seconds of a day, each from 0 to 86,399, counted from midnight.
 ///
-/// Contracts see it as the rising list of its seconds. Two sets are equal exactly where they have the
+/// Contracts see it as the rising list of its seconds. Two sets are equal exactly if they have the
 /// same seconds, so a set can be a key of a map.
 #[derive(Drop)]
 pub struct TimeSet {
@@ -67,7 +67,7 @@ impl TimeSet {
         })
     }
 
-    /// The seconds of `a` from `from` on and below `to`; none where `to` is not above `from`.
+    /// The seconds of `a` from `from` on and below `to`; none if `to` is not above `from`.
     pub fn cut(alloc: Global, a: &TimeSet, from: u32, to: u32) -> Result<TimeSet, NoMemory>
         ensures { IfOk result (λ t. IsCutOf a.now from to t) }
     {
@@ -86,7 +86,7 @@ impl TimeSet {
         count_below(self.as_slice(), second) as u32
     }
 
-    /// The second of rank `place`, counted from 0; none exactly where there are at most `place`.
+    /// The second of rank `place`, counted from 0; none exactly if there are at most `place`.
     pub fn select(&self, place: u32) -> Option<u32>
         ensures { result ≡ slice_get self.now place }
     {
@@ -104,7 +104,7 @@ impl TimeSet {
         first_stretch(self.as_slice(), from)
     }
 
-    /// Takes one second out, where the set has it; it takes no memory.
+    /// Takes one second out, if the set has it; it takes no memory.
     pub fn remove(&mut self, second: u32)
         ensures { IsSetOf nat_lt self.new (λ s. Contains self.old s × (s ≢ second)) }
     {
@@ -114,7 +114,7 @@ impl TimeSet {
         }
     }
 
-    /// The seconds in order.
+    /// The seconds of the day, from the least to the greatest.
     pub fn as_slice(&self) -> &[u32]
         ensures same { result.now ≡ self.now }
         ensures of_day { IsSecondsOfDay self.now }

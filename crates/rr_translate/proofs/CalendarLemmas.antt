@@ -10,7 +10,7 @@ use Rattle.rr_model.specs.Series.Cycle.{series_cycle}
 use Rattle.rr_model.specs.Series.Occurrences.{Occurs}
 use Rattle.rr_model.specs.Series.Soundness.{IsSound}
 use Rattle.rr_model.specs.Series.Validity.{IsEmptySeries, IsValidSeries}
-use Rattle.rr_model.specs.Text.Calendars.{reads_calendar}
+use Rattle.rr_rule_parts.specs.Calendars.{reads_calendar}
 use Rattle.rr_model.specs.Text.WriteLaws.{IsOneEnd}
 use Rattle.rr_model.specs.Text.Written.{calendar_written}
 use Rattle.rr_model.specs.declared.kind.Kind.{Kind}

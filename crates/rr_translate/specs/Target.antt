@@ -6,7 +6,7 @@ use Rattle.rr_model.specs.Moment.{Occurrences}
 use Rattle.rr_model.specs.Series.Occurrences.{Occurs}
 use Rattle.rr_model.specs.Series.Soundness.{first_refusal}
 use Rattle.rr_model.specs.Sets.Verdict.{HaveEqualOccurrences}
-use Rattle.rr_model.specs.Text.Calendars.{reads_calendar}
+use Rattle.rr_rule_parts.specs.Calendars.{reads_calendar}
 use Rattle.rr_model.specs.Text.RuleValues.{◌>>=◌}
 use Rattle.rr_model.specs.Vcal.Counterpart.{series_of_vseries}
 use Rattle.rr_model.specs.Vcal.Reading.{reads_vcal}

@@ -4,7 +4,7 @@ use Rattle.std.specs.List.{list_all}
 use Rattle.rr_model.specs.Moment.{is_same_kind}
 use Rattle.rr_model.specs.Rule.Validity.{is_absent}
 use Rattle.rr_model.specs.Series.Validity.{IsValidSeries}
-use Rattle.rr_model.specs.Text.Calendars.{calendar_scan}
+use Rattle.rr_rule_parts.specs.Calendars.{calendar_scan}
 use Rattle.rr_model.specs.Text.Event.{no_components, scan_of}
 use Rattle.rr_model.specs.Text.Passes.{date_value}
 use Rattle.rr_model.specs.declared.kind.Kind.TheVariants.{Moments}

@@ -37,7 +37,7 @@ LastWeekIsGreatest = (y : ℤ) (w : ℕ) → IsLastWeek y w (last_week y w)
 
 -- ---- 400 years are 146,097 days, which are 20,871 weeks, and then the calendar begins again
 
--- the day as many cycles of 400 years later as `cycles` says, earlier where it is negative
+-- the day as many cycles of 400 years later as `cycles` says, earlier if it is negative
 abbrev pub later_day : ℤ → ℤ → ℤ
 later_day cycles d = d +ℤ (pos 146_097 *ℤ cycles)
 

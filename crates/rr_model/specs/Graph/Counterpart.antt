@@ -39,7 +39,7 @@ has_weekday days weekday = (days / bit_of weekday) % 2 == 1
 abbrev pub days_of_sum : ℕ → List DayItem
 days_of_sum days = map (λ weekday. day_item (pos 0) weekday) (filter (has_weekday days) (0 ∷ 1 ∷ 2 ∷ 3 ∷ 4 ∷ 5 ∷ 6 ∷ []))
 
--- a part where the type uses its member
+-- a part if the type uses its member
 abbrev pub if_part : {X : Type 0} → Bool → List X → List X
 if_part true values = values
 if_part false values = []
@@ -62,7 +62,7 @@ end_of_range kind second NoEnd = Never
 end_of_range kind second (EndDate day) = Until kind (moment_at kind day second)
 end_of_range kind second (Numbered n) = Count n
 
--- weeks begin as a weekly pattern says, and else on Monday
+-- weeks begin as a weekly pattern says, and otherwise on Monday
 abbrev pub week_start_of : Form → ℕ → ℕ
 week_start_of Weekly first_day = first_day
 week_start_of form first_day = 0

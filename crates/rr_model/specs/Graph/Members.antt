@@ -22,7 +22,7 @@ present (string s) = Some (string s)
 present (array ds) = Some (array ds)
 present (object ms) = Some (object ms)
 
--- the member of that name, where there is one that is not null
+-- the member of that name, if there is one that is not null
 abbrev pub member_of : List ℕ → Data → Option Data
 member_of name value = option_and_then present (get name value)
 

@@ -99,7 +99,7 @@ pub record IsGraphOccurrence (event : GraphEvent) (kind : Kind) (t : ℤ) : Type
 
 -- ---- the first occurrence
 
--- q where it passes, or what is found from the next number on
+-- q if it passes, or what is found from the next number on
 abbrev pub first_or : Bool → ℤ → (ℤ → Option ℤ) → Option ℤ
 first_or true q more = Some q
 first_or false q more = more (q +ℤ pos 1)

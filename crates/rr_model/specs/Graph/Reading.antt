@@ -56,7 +56,7 @@ abbrev pub days_after : ℕ → Items → Option ℕ
 days_after days no_items = Some days
 days_after days (item name names) = option_and_then (λ day. days_after (bit_or days (bit_of day)) names) (option_and_then day_named (as_str name))
 
--- the days of a list of names, which is not empty; None where it is empty or a name is unknown
+-- the days of a list of names, which is not empty; None if it is empty or a name is unknown
 abbrev pub days_of_names : Items → Option ℕ
 days_of_names no_items = None
 days_of_names (item name names) = days_after 0 (item name names)
@@ -65,16 +65,16 @@ days_of_names (item name names) = days_after 0 (item name names)
 unfoldable pub days_in : Data → Result ℕ Refusal
 days_in pattern = ok_or (option_and_then days_of_names (option_and_then as_array (member_of (codes "daysOfWeek") pattern))) (BadMember of.DaysOfWeek)
 
--- the value that a name states, and another value where the member is missing
+-- the value that a name states, and another value if the member is missing
 abbrev pub named_or : {X : Type 0} → Member → (List ℕ → Option X) → X → Option Data → Result X Refusal
 named_or member names missing None = Ok missing
 named_or member names missing (Some value) = ok_or (option_and_then names (as_str value)) (BadMember member)
 
--- firstDayOfWeek, Sunday where it is missing
+-- firstDayOfWeek, Sunday if it is missing
 unfoldable pub first_day_in : Data → Result ℕ Refusal
 first_day_in pattern = named_or of.FirstDayOfWeek day_named 6 (member_of (codes "firstDayOfWeek") pattern)
 
--- index, the first where it is missing
+-- index, the first if it is missing
 unfoldable pub index_in : Data → Result ℤ Refusal
 index_in pattern = named_or of.Index index_named (pos 1) (member_of (codes "index") pattern)
 
@@ -165,7 +165,7 @@ abbrev pub is_named_utc : Option (List ℕ) → Bool
 is_named_utc None = false
 is_named_utc (Some zone) = str_eq_ignore_ascii_case zone (codes "UTC")
 
--- the moment turned by a stated offset, where it is one of UTC
+-- the moment turned by a stated offset, if it is one of UTC
 abbrev pub turned_start : Bool → Option ℤ → ℤ → Option ℤ
 turned_start is_utc None at = Some at
 turned_start is_utc (Some offset) at = if is_utc then (if is_in_years Moments (at +ℤ offset) then Some (at +ℤ offset) else None) else Some at
@@ -236,7 +236,7 @@ abbrev pub by_pattern : Option ℤ → Option Data → Data → Result GraphEven
 by_pattern offset None value = event_of offset value
 by_pattern offset (Some pattern) value = bare_of value
 
--- what a JSON text states: a bare recurrence where it has a pattern, and else an event
+-- what a JSON text states: a bare recurrence if it has a pattern, and otherwise an event
 unfoldable pub graph_text : Option ℤ → List ℕ → Result GraphEvent Refusal
 graph_text offset text = json_object (without_mark text) >>= λ value. by_pattern offset (member_of (codes "pattern") value) value
 

@@ -41,7 +41,7 @@ index_text (negsuc n) = codes "last"
 abbrev pub day_names : ℕ → List (List ℕ)
 day_names days = map day_text (filter (has_weekday days) (6 ∷ 0 ∷ 1 ∷ 2 ∷ 3 ∷ 4 ∷ 5 ∷ []))
 
--- a member before others, where it is written
+-- a member before others, if it is written
 abbrev pub member_if : Bool → List ℕ → Data → Members → Members
 member_if true name value members = member name value members
 member_if false name value members = members

@@ -17,7 +17,7 @@ abbrev pub LiesIfUsed : Bool → ℕ → ℕ → ℕ → ℕ → Type 0
 LiesIfUsed true low high otherwise n = (low ≤ n) × (n ≤ high)
 LiesIfUsed false low high otherwise n = n ≡ otherwise
 
--- an index that a pattern may have: 1 to 4, or -1 for the last; always 1 where it is not used
+-- an index that a pattern may have: 1 to 4, or -1 for the last; always 1 if it is not used
 abbrev pub IsIndex : Bool → ℤ → Type 0
 IsIndex true index = ((pos 1 ≤ℤ index) × (index ≤ℤ pos 4)) ⊎ (index ≡ neg_ℤ (pos 1))
 IsIndex false index = index ≡ pos 1

@@ -23,7 +23,7 @@ month_number d = ((pos 12 *ℤ year_of d) +ℤ pos (month_of d)) -ℤ pos 1
 abbrev pub first_day_of_month : ℤ → ℤ
 first_day_of_month n = day_number (floor_div n 12) (floor_mod n 12 + 1) 1
 
--- the number of the second, minute, hour, day, week, month or year in which a moment lies, where weeks begin on the weekday w
+-- the number of the second, minute, hour, day, week, month or year in which a moment lies, if weeks begin on the weekday w
 abbrev pub unit_number : Freq → ℕ → Kind → ℤ → ℤ
 unit_number Secondly w kind t = t
 unit_number Minutely w kind t = floor_div t 60

@@ -38,7 +38,7 @@ has_weekday_of d e = weekday_of e == weekday_of d
 abbrev pub rank_from_front : ℤ → ℕ → ℕ
 rank_from_front d k = count_from (has_weekday_of d) ((d -ℤ pos k) +ℤ pos 1) k
 
--- the rank from the back of the k-th day of its month or year, among the days of its weekday there, where the month or year has `many` days
+-- the rank from the back of the k-th day of its month or year, among the days of its weekday there, if the month or year has `many` days
 abbrev pub rank_from_back : ℤ → ℕ → ℕ → ℕ
 rank_from_back d k many = count_from (has_weekday_of d) d ((many + 1) - k)
 
@@ -57,7 +57,7 @@ is_ordinal_of_day n in_year d =
     if in_year then is_weekday_ordinal n d (day_of_year d) (days_in_year (year_of d))
     else is_weekday_ordinal n d (day_of_month d) (days_in_month (year_of d) (month_of d))
 
--- the day has the item's weekday, and the item's ordinal where it has one
+-- the day has the item's weekday, and the item's ordinal if it has one
 abbrev pub day_item_holds : Bool → ℤ → DayItem → Bool
 day_item_holds in_year d item = (item.weekday == weekday_of d) && (int_eq item.place (pos 0) || is_ordinal_of_day item.place in_year d)
 
@@ -83,7 +83,7 @@ by_year_day_holds rule d = allows_signed rule.by_year_day (pos (day_of_year d)) 
 abbrev pub by_month_day_holds : Rule → ℤ → Bool
 by_month_day_holds rule d = allows_signed rule.by_month_day (pos (day_of_month d)) (pos (days_in_month (year_of d) (month_of d)))
 
--- BYDAY lists the day's weekday, with its ordinal where that is asked
+-- BYDAY lists the day's weekday, with its ordinal if that is asked
 abbrev pub by_day_holds : Rule → ℤ → Bool
 by_day_holds rule d = is_absent rule.by_day || list_any (day_item_holds (counts_in_year rule.freq rule.by_month) d) rule.by_day
 

@@ -29,7 +29,7 @@ day_holds rule start_day day = interval_holds rule Days start_day day && date_pa
 abbrev pub IsCandidateDay : Rule → ℤ → ℤ → ℤ → Type 0
 IsCandidateDay rule start_day unit day = (unit_number rule.freq rule.week_start Days day ≡ unit) × IsTrue (day_holds rule start_day day)
 
--- At each second of each day, a rule of whole days has a candidate exactly where the day and the second are candidates.
+-- At each second of each day, a rule of whole days has a candidate exactly if the day and the second are candidates.
 abbrev pub CandidatesAreDaysAndTimes : Type 0
 CandidatesAreDaysAndTimes = (rule : Rule) (kind : Kind) (start day : ℤ) (second : ℕ) → is_whole_days rule.freq ≡ true → second < seconds_of kind
     → is_candidate rule kind start (moment_at kind day second) ≡ (day_holds rule (day_part kind start) day && time_holds rule kind start second)

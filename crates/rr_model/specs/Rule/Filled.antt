@@ -1,4 +1,4 @@
--- What a rule takes from its start where a part is absent (RFC 5545, section 3.3.10, on DTSTART).
+-- What a rule takes from its start if a part is absent (RFC 5545, section 3.3.10, on DTSTART).
 use Rattle.std.specs.Prelude.{ℕ, ◌/◌, ◌%◌, Bool, true, false, not, ◌&&◌, if◌then◌else◌, List, [], ◌∷◌, ℤ, pos}
 use Rattle.rr_model.specs.Calendar.{month_of, day_of_month, weekday_of}
 use Rattle.rr_model.specs.Moment.{day_part, second_part}
@@ -26,7 +26,7 @@ second_of kind t = second_part kind t % 60
 
 -- ---- which parts are filled
 
--- the part as it is where it is present or not wanted, and the start's own value where it is absent and wanted
+-- the part as it is if it is present or not wanted, and the start's own value if it is absent and wanted
 abbrev pub filled_part : {X : Type 0} → Bool → List X → X → List X
 filled_part is_wanted values own = if is_wanted && is_absent values then own ∷ [] else values
 

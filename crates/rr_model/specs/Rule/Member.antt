@@ -18,7 +18,7 @@ members_to rule kind start t = count_from (is_chosen rule kind start) start (nat
 abbrev pub is_until : Kind → ℤ → Kind → ℤ → Bool
 is_until other at kind t = is_same_kind other kind && int_le t at
 
--- t is not past the end, where it is the member of this number, from 1
+-- t is not past the end, if it is the member of this number, from 1
 abbrev pub is_within_end : End → Kind → ℤ → ℕ → Bool
 is_within_end Never kind t number = true
 is_within_end (Until other at) kind t number = is_until other at kind t
@@ -31,7 +31,7 @@ is_member rule kind start t = is_chosen rule kind start t && int_le start t && i
 
 -- ---- as a property
 
--- t is not past the end, where it is the member of this number, from 1
+-- t is not past the end, if it is the member of this number, from 1
 abbrev pub IsWithinEnd : End → Kind → ℤ → ℕ → Type 0
 IsWithinEnd Never kind t number = ⊤
 IsWithinEnd (Until other at) kind t number = (other ≡ kind) × (t ≤ℤ at)

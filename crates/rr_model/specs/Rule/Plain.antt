@@ -4,7 +4,7 @@ use Rattle.rr_model.specs.declared.rule.End.TheVariants.{Never}
 use Rattle.rr_model.specs.declared.rule.Freq.{Freq}
 use Rattle.rr_model.specs.declared.rule.Rule.{Rule}
 
--- the rule without a BY part and without an end, where weeks begin on Monday
+-- the rule without a BY part and without an end, with weeks from Monday on
 abbrev pub plain_rule : Freq → ℕ → Rule
 plain_rule freq interval = record {
   freq = freq;

@@ -16,7 +16,7 @@ days_in Moments days = days *ℤ pos 86_400
 abbrev pub later_moment : Rule → Kind → ℤ → ℤ → ℤ
 later_moment rule kind cycles t = t +ℤ days_in kind (pos (rule_cycle rule) *ℤ cycles)
 
--- A moment any whole number of cycles later is chosen exactly where it is.
+-- A moment any whole number of cycles later is chosen exactly if it is.
 abbrev pub ChosenRepeats : Type 0
 ChosenRepeats =
     (rule : Rule) (kind : Kind) (start cycles t : ℤ) → IsValidRule kind rule

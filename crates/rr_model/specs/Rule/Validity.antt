@@ -19,7 +19,7 @@ use Rattle.rr_model.specs.declared.rule.Rule.{Rule}
 abbrev pub LieFrom : ℕ → ℕ → List ℤ → Type 0
 LieFrom low high numbers = All (λ n. (pos low ≤ℤ n) × (n ≤ℤ pos high)) numbers
 
--- each number counts from 1 up to the most: from the front, or from the back where it is negative
+-- each number counts from 1 up to the most: from the front, or from the back if it is negative
 abbrev pub CountUpTo : ℕ → List ℤ → Type 0
 CountUpTo most numbers = All (λ n. (1 ≤ nat_abs n) × (nat_abs n ≤ most)) numbers
 
@@ -31,7 +31,7 @@ IsDayItem item = (nat_abs item.place ≤ 53) × (item.weekday < 7)
 abbrev pub IsCount : ℕ → Type 0
 IsCount n = (1 ≤ n) × (n ≤ 18_446_744_073_709_551_615)
 
--- the end's COUNT, where it has one
+-- the end's COUNT, if it has one
 abbrev pub HasCountInRange : End → Type 0
 HasCountInRange (Count n) = IsCount n
 HasCountInRange (Both kind at n) = IsCount n
@@ -73,7 +73,7 @@ abbrev pub takes_week_numbers : Freq → Bool
 takes_week_numbers Yearly = true
 takes_week_numbers freq = false
 
--- a number in BYDAY is allowed with MONTHLY, and with YEARLY where BYWEEKNO is absent
+-- a number in BYDAY is allowed with MONTHLY, and with YEARLY if BYWEEKNO is absent
 abbrev pub takes_ordinals : Freq → Bool → Bool
 takes_ordinals Monthly no_weeks = true
 takes_ordinals Yearly no_weeks = no_weeks

@@ -7,7 +7,7 @@ use Rattle.rr_model.specs.declared.rule.End.TheVariants.{Never}
 use Rattle.rr_model.specs.declared.rule.Rule.{Rule}
 use Rattle.rr_model.specs.declared.rule.Series.{Series}
 
--- what a rule with this end adds to the cycle of its series: its own cycle where it is endless, and nothing where it ends
+-- what a rule with this end adds to the cycle of its series: its own cycle if it is endless, and nothing if it ends
 abbrev pub endless_cycle : End → Rule → ℕ
 endless_cycle Never rule = rule_cycle rule
 endless_cycle end rule = 1

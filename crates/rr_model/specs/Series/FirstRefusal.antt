@@ -15,12 +15,12 @@ pub record Limits : Type 0 where
   pub counts : Bool
   pub moments : Bool
 
--- the refusal that is there already, else what comes next
+-- the refusal that is there already, otherwise what comes next
 abbrev pub IsRefusalOr : Option Refusal → (Option Refusal → Type 0) → Option Refusal → Type 0
 IsRefusalOr (Some refusal) next x = x ≡ Some refusal
 IsRefusalOr None next x = next x
 
--- the given refusal where the condition holds, else what comes next
+-- the given refusal if the condition holds, otherwise what comes next
 abbrev pub IsRefusalWhere : Type 0 → Refusal → (Option Refusal → Type 0) → Option Refusal → Type 0
 IsRefusalWhere P refusal next x = (P × (x ≡ Some refusal)) ⊎ ((P → ⊥) × next x)
 
@@ -42,7 +42,7 @@ IsLimitRefusal limits series =
     IsRefusalWhere (IsCycleOver limits series) CycleTooLong
     (IsRefusalWhere (IsCountOver limits series) CountedTooFar (IsRefusalWhere (AreMomentsOver limits series) TooManyMoments (λ x. x ≡ None)))
 
--- First the rules beside the start, then each limit that the command judges; None where nothing is refused.
+-- First the rules beside the start, then each limit that the command judges; None if nothing is refused.
 abbrev pub IsFirstRefusal : Limits → Series → Option Refusal → Type 0
 IsFirstRefusal limits series = IsRefusalOr (first_refusal series) (IsLimitRefusal limits series)
 

@@ -11,7 +11,7 @@ abbrev pub IsMemberOfSome : List Rule → Kind → ℤ → ℤ → Type 0
 IsMemberOfSome [] kind start t = ⊥
 IsMemberOfSome (rule ∷ rules) kind start t = IsMember rule kind start t ⊎ IsMemberOfSome rules kind start t
 
--- the start where it counts, a member of a rule, or a date added; and neither a date taken out nor a member of an excluded rule
+-- the start if it counts, a member of a rule, or a date added; and neither a date taken out nor a member of an excluded rule
 pub record Occurs (series : Series) (k : Kind) (t : ℤ) : Type 0 where
   pub kind : k ≡ series.kind
   pub stands : ((series.start_counts ≡ true) × (t ≡ series.start)) ⊎ IsMemberOfSome series.rules series.kind series.start t ⊎ Contains series.plus t

@@ -14,7 +14,7 @@ use Rattle.rr_model.specs.declared.rule.Series.{Series}
 
 -- ---- why a series is refused
 
--- why an UNTIL is refused beside a start, if it is: its kind is another, or else it is earlier
+-- why an UNTIL is refused beside a start, if it is: its kind is another, or otherwise it is earlier
 abbrev pub until_refusal : Kind → ℤ → Kind → ℤ → Option Refusal
 until_refusal Days start Days at = if int_lt at start then Some UntilBeforeStart else None
 until_refusal Moments start Moments at = if int_lt at start then Some UntilBeforeStart else None

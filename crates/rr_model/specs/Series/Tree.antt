@@ -26,7 +26,7 @@ abbrev pub members_of_all : Kind → ℤ → List Rule → Forest
 members_of_all kind start [] = nothing
 members_of_all kind start (rule ∷ rules) = part (members_of kind start rule) (members_of_all kind start rules)
 
--- the dates added, and the start where it counts
+-- the dates added, and the start if it counts
 abbrev pub dates_with_start : Series → List ℤ
 dates_with_start series = if series.start_counts then with_value int_lt series.plus series.start else series.plus
 

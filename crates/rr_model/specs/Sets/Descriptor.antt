@@ -25,7 +25,7 @@ with_sets_of sets (s ∷ ss) = with_sets_of (with_set sets s.times) ss
 unfoldable pub sets_of : Sketch → List (List ℕ)
 sets_of s = with_sets_of [] (s.before ++ s.cycle)
 
--- the index of a time set in the list; the list's length where it is not there
+-- the index of a time set in the list; the list's length if it is not there
 abbrev pub number_of : List (List ℕ) → List ℕ → ℕ
 number_of sets times = position_or_len (is_same_set times) sets
 

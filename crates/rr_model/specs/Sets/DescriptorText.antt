@@ -56,7 +56,7 @@ abbrev pub ending_lines : Option Ending → List (List ℕ)
 ending_lines None = []
 ending_lines (Some ending) = settled_line ending ∷ map (run_line 99) ending.cycle
 
--- all lines after the first, where the lines of time sets are written so
+-- all lines after the first, if the lines of time sets are written so
 abbrev pub lines_of : (List ℕ → List ℕ) → Option Described → List (List ℕ)
 lines_of set_line None = codes "none" ∷ []
 lines_of set_line (Some d) =

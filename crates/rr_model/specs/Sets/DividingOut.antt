@@ -24,7 +24,7 @@ pub record IsPeriodSoFar {X : Type 0} (f : ℤ → X) (q : ℤ) (period rest : �
   pub divides : rest ∣ period
   pub reaches : (r : ℕ) → RepeatsFrom f q r → r ∣ period → period ∣ r * rest
 
--- the period over the factor where that is a period too, and else the period
+-- the period over the factor if that is a period too, and otherwise the period
 abbrev pub IsDividedOnce : {X : Type 0} → (ℤ → X) → ℤ → ℕ → ℕ → ℕ → Type 0
 IsDividedOnce f q period factor new =
     (RepeatsFrom f q (period / factor) × (new ≡ period / factor)) ⊎ ((RepeatsFrom f q (period / factor) → ⊥) × (new ≡ period))

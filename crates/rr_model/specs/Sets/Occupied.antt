@@ -4,7 +4,7 @@ use Rattle.rr_model.specs.Sets.Sketch.{times_on}
 use Rattle.rr_model.specs.declared.sketch.DayShape.{DayShape}
 use Rattle.rr_model.specs.declared.sketch.Sketch.{Sketch}
 
--- the day with its seconds, where it has some
+-- the day with its seconds, if it has some
 abbrev pub shape_if_some : ℤ → List ℕ → List DayShape
 shape_if_some day [] = []
 shape_if_some day (x ∷ xs) = record { day = day; times = x ∷ xs } ∷ []

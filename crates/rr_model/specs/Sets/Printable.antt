@@ -38,7 +38,7 @@ abbrev pub ArePrintedSets : Kind → List (List ℕ) → Type 0
 ArePrintedSets Days sets = sets ≡ (0 ∷ []) ∷ []
 ArePrintedSets Moments sets = All IsSecondsOfDay sets
 
--- an ending, where there is one, can be printed
+-- an ending, if there is one, can be printed
 abbrev pub IsPrintedIfSome : Option Ending → Type 0
 IsPrintedIfSome None = ⊤
 IsPrintedIfSome (Some ending) = IsPrintedEnding ending
@@ -79,7 +79,7 @@ pub record IsDescribable (s : Sketch) : Type 0 where
 
 -- ---- what a descriptor tells
 
--- Texts of two sets are equal exactly where the sets have equal occurrences.
+-- Texts of two sets are equal exactly if the sets have equal occurrences.
 abbrev pub TellsSetsApart : (Sketch → List ℕ) → Type 0
 TellsSetsApart text = (s u : Sketch) → IsDescribable s → IsDescribable u → (text s ≡ text u) ↔ HaveEqualOccurrences (StandsIn s) (StandsIn u)
 

@@ -16,7 +16,7 @@ days_from sets from [] = []
 days_from sets from (step ∷ steps) =
     record { day = from +ℤ pos step.gap; times = get_or sets step.set [] } ∷ days_from sets (from +ℤ pos step.gap) steps
 
--- the day after the last of these; where there are none, this one
+-- the day after the last of these; if there are none, this one
 abbrev pub day_after : ℤ → List DayShape → ℤ
 day_after from [] = from
 day_after from (s ∷ ss) = day_after (s.day +ℤ pos 1) ss
@@ -38,7 +38,7 @@ sketch_with d (Some e) = record {
   cycle = days_from d.sets e.settled (steps_of_runs e.cycle);
 }
 
--- the sketch that a description of a set gives, the empty one where there is none
+-- the sketch that a description of a set gives, the empty one if there is none
 abbrev pub sketch_described : Option Described → Sketch
 sketch_described None = record { kind = Days; before = []; settled = pos 0; period = 1; cycle = [] }
 sketch_described (Some d) = sketch_with d d.ending

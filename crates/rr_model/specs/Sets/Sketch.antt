@@ -48,7 +48,7 @@ pub record IsValidSketch (s : Sketch) : Type 0 where
 
 -- ---- what it says
 
--- an occurrence of the sketch's kind stands in it where its day has its second
+-- an occurrence of the sketch's kind stands in it if its day has its second
 pub record StandsIn (s : Sketch) (k : Kind) (t : ℤ) : Type 0 where
   pub kind : k ≡ s.kind
   pub second : Contains (times_on s (day_part k t)) (second_part k t)
@@ -61,7 +61,7 @@ StandsFor s P = (k : Kind) (t : ℤ) → StandsIn s k t ↔ P k t
 abbrev pub IsEmptySketch : Sketch → Type 0
 IsEmptySketch s = (d : ℤ) → times_on s d ≡ []
 
--- the first occupied day, none exactly where no day is
+-- the first occupied day, none exactly if no day is
 abbrev pub IsFirstDay : Sketch → Option ℤ → Type 0
 IsFirstDay s None = IsEmptySketch s
 IsFirstDay s (Some first) = (times_on s first ≡ [] → ⊥) × ((d : ℤ) → d <ℤ first → times_on s d ≡ [])

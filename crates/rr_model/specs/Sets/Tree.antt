@@ -84,7 +84,7 @@ abbrev mutual
   AreOfKind k nothing = ⊤
   AreOfKind k (part a parts) = IsOfKind k a × AreOfKind k parts
 
--- the kind of the first rule, date or end of a tree, None where it has none of these
+-- the kind of the first rule, date or end of a tree, None if it has none of these
 abbrev mutual
   pub kind_in : Tree → Option Kind
   kind_in (chosen_of rule kind start) = Some kind
@@ -101,7 +101,7 @@ abbrev mutual
   kind_in_some nothing = None
   kind_in_some (part a parts) = option_or (kind_in a) (kind_in_some parts)
 
--- the kind, and dates where there is none
+-- the kind, and dates if there is none
 abbrev pub or_days : Option Kind → Kind
 or_days None = Days
 or_days (Some kind) = kind

@@ -23,18 +23,18 @@ HoldsOn A P Q = P × (Q → ⊥)
 HoldsOn B P Q = Q × (P → ⊥)
 HoldsOn Both P Q = P × Q
 
--- Yes where the two have equal occurrences; no with the first that exactly one has, and its side.
+-- Yes if the two have equal occurrences; no with the first that exactly one has, and its side.
 abbrev pub IsEqualVerdict : Occurrences → Occurrences → Verdict → Type 0
 IsEqualVerdict P Q Yes = HaveEqualOccurrences P Q
 IsEqualVerdict P Q (No k t side) = HoldsOnlyOf side (P k t) (Q k t) × ((l : Kind) (u : ℤ) → Before l u k t → P l u ↔ Q l u)
 
--- Yes where each occurrence of the first is one of the second; no with the first that the second lacks.
+-- Yes if each occurrence of the first is one of the second; no with the first that the second lacks.
 abbrev pub IsWithinVerdict : Occurrences → Occurrences → Verdict → Type 0
 IsWithinVerdict P Q Yes = (k : Kind) (t : ℤ) → P k t → Q k t
 IsWithinVerdict P Q (No k t side) =
     (side ≡ A) × P k t × (Q k t → ⊥) × ((l : Kind) (u : ℤ) → Before l u k t → P l u → Q l u)
 
--- Yes where the two have no common occurrence; no with the first.
+-- Yes if the two have no common occurrence; no with the first.
 abbrev pub IsDisjointVerdict : Occurrences → Occurrences → Verdict → Type 0
 IsDisjointVerdict P Q Yes = (k : Kind) (t : ℤ) → P k t → Q k t → ⊥
 IsDisjointVerdict P Q (No k t side) =

@@ -39,7 +39,7 @@ after_begin components name =
     if is_event name && components.had_event then Err SeveralEvents
     else Ok (record { open_names = name ∷ components.open_names; had_event = is_event name || components.had_event })
 
--- the innermost component is closed, where it has this name
+-- the innermost component is closed, if it has this name
 abbrev pub after_end : ℕ → Components → List (List ℕ) → List ℕ → Result Components Refusal
 after_end number components [] name = Err (BadLine number)
 after_end number components (innermost ∷ outer) name =
@@ -62,7 +62,7 @@ left_with components used = record { components = components; used = used }
 abbrev pub value_on : ℕ → List ℕ → Result (List ℕ) Refusal
 value_on number text = ok_or (value_of_line text) (BadLine number)
 
--- what is known after a line of this kind, or its refusal; where the text has no component at all, every line is the event's
+-- what is known after a line of this kind, or its refusal; if the text has no component at all, every line is the event's
 abbrev pub left_at : Bool → Components → ℕ → LineKind → List ℕ → Result Left Refusal
 left_at is_bare components number Begin text = do
   name ← value_on number text

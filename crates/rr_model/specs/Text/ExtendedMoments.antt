@@ -27,7 +27,7 @@ extended_time_of text =
 abbrev pub count_zeros : List ℕ → ℕ
 count_zeros text = prefix_len (λ b. b == 48) text
 
--- what follows a fraction of zeros, or the text where none begins
+-- what follows a fraction of zeros, or the text if none begins
 abbrev pub after_fraction : List ℕ → Option (List ℕ)
 after_fraction [] = Some []
 after_fraction (b ∷ bs) =

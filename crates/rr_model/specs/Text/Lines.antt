@@ -49,7 +49,7 @@ with_physical_lines keeps_blank number lines [] = lines
 with_physical_lines keeps_blank number lines (text ∷ texts) =
     with_physical_lines keeps_blank (number + 1) (with_physical_line keeps_blank number lines text) texts
 
--- The unfolded lines with their numbers. The break between two lines is removed, and the blank after it where it is not kept.
+-- The unfolded lines with their numbers. The break between two lines is removed, and the blank after it if it is not kept.
 unfoldable pub unfolded_lines : Bool → List ℕ → List Line
 unfolded_lines keeps_blank bytes = with_physical_lines keeps_blank 1 [] (physical_lines bytes)
 

@@ -86,7 +86,7 @@ date_stamp day = record { kind = Days; at = day; utc = false }
 abbrev pub moment_stamp : ℤ → ℕ → Bool → Stamp
 moment_stamp day second utc = record { kind = Moments; at = moment_at Moments day second; utc = utc }
 
--- the moment of a date, a time and a mark, where all three are stated
+-- the moment of a date, a time and a mark, if all three are stated
 abbrev pub moment_of : Option ℤ → Option ℕ → Option Bool → Option Stamp
 moment_of (Some day) (Some second) (Some utc) = Some (moment_stamp day second utc)
 moment_of day second utc = None
@@ -108,7 +108,7 @@ basic text = if length text == 8 then option_map date_stamp (basic_date text) el
 abbrev pub decimal_of : ℕ → ℕ → List ℕ
 decimal_of width n = replicate (width - length (decimal n)) 48 ++ decimal n
 
--- YYYY-MM-DD, where a year past 9999 has as many digits as it needs
+-- YYYY-MM-DD; a year past 9999 has as many digits as it needs
 abbrev pub extended_date : ℕ → ℕ → ℕ → List ℕ
 extended_date year month day = decimal_of 4 year ++ codes "-" ++ decimal_of 2 month ++ codes "-" ++ decimal_of 2 day
 

@@ -62,7 +62,7 @@ judged_date line is_plus pass text =
 abbrev pub judged_dates : ℕ → Bool → FirstPass → List (List ℕ) → Result FirstPass Refusal
 judged_dates line is_plus pass texts = in_turn (judged_date line is_plus) pass texts
 
--- what the first pass keeps after one rule, or its refusal; the rule is read only where there is room for it
+-- what the first pass keeps after one rule, or its refusal; the rule is read only if there is room for it
 abbrev pub judged_rule : {R : Type 0} → Language R → ℕ → FirstPass → List ℕ → Result FirstPass Refusal
 judged_rule language line pass text =
     if nat_le MAX_RULES pass.rule_count then Err TooManyParts else (language.stated line text >>= λ rule. Ok (record pass { rule_count = pass.rule_count + 1 }))
@@ -81,7 +81,7 @@ first_pass language pass lines = in_turn (λ p line. judged_line language line.n
 
 -- ---- the second pass
 
--- a moment of UTC as local time, `offset` seconds later; UtcMoment where no offset is stated
+-- a moment of UTC as local time, `offset` seconds later; UtcMoment if no offset is stated
 abbrev pub local_moment_of : ℕ → Option ℤ → ℤ → Result ℤ Refusal
 local_moment_of line None at = Err UtcMoment
 local_moment_of line (Some offset) at = if is_in_years Moments (at +ℤ offset) then Ok (at +ℤ offset) else Err (BadMoment line)
@@ -90,7 +90,7 @@ local_moment_of line (Some offset) at = if is_in_years Moments (at +ℤ offset) 
 abbrev pub moment_beside : Option ℤ → Stamp → ℕ → Stamp → Result ℤ Refusal
 moment_beside offset start line stamp = if stamp.utc && not start.utc && has_time start.kind then local_moment_of line offset stamp.at else Ok stamp.at
 
--- the day or moment of a date value beside the start; MixedKinds where one is a date and the other a moment
+-- the day or moment of a date value beside the start; MixedKinds if one is a date and the other a moment
 abbrev pub date_beside : Option ℤ → Stamp → ℕ → Stamp → Result ℤ Refusal
 date_beside offset start line stamp = if is_same_kind start.kind stamp.kind then moment_beside offset start line stamp else Err (MixedKinds line)
 

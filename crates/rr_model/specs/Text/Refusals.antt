@@ -67,7 +67,7 @@ refusal_name NotCanonical = codes "NotCanonical"
 refusal_name MixedSets = codes "MixedSets"
 refusal_name PastRange = codes "PastRange"
 
--- the name, and after a blank the line, the rule or the member where there is one
+-- the name, and after a blank the line, the rule or the member if there is one
 abbrev pub refusal_text : Refusal → List ℕ
 refusal_text TooLong = codes "TooLong"
 refusal_text NotText = codes "NotText"

@@ -30,7 +30,7 @@ is_named text word = str_eq_ignore_ascii_case (name_of_line text) word
 abbrev pub has_quote : List ℕ → Bool
 has_quote text = list_any (λ b. b == 34) text
 
--- a place after a byte lies between two quotes: a quote opens where a further one follows, which closes it
+-- a place after a byte lies between two quotes: a quote opens if a further one follows, which closes it
 abbrev pub is_quoted_after : Bool → ℕ → List ℕ → Bool
 is_quoted_after is_quoted b bs = if b == 34 then not is_quoted && has_quote bs else is_quoted
 

@@ -1,19 +1,9 @@
--- What is written for a series is read back.
-use Rattle.std.specs.Prelude.{◌≡◌, true, All, None, Ok, ⊤}
-use Rattle.rr_model.specs.Series.Validity.{IsValidSeries}
-use Rattle.rr_model.specs.Text.Calendars.{reads_calendar}
-use Rattle.rr_model.specs.Text.Written.{calendar_written}
+-- What can be written in RFC 5545 (section 3.3.10).
+use Rattle.std.specs.Prelude.{⊤}
 use Rattle.rr_model.specs.declared.rule.End.{End}
 use Rattle.rr_model.specs.declared.rule.End.TheVariants.{Both}
-use Rattle.rr_model.specs.declared.rule.Series.{Series}
 
 -- an end that RFC 5545 has words for
 abbrev pub IsOneEnd : End → Type 0
 IsOneEnd (Both kind at count) = ⊥
 IsOneEnd end = ⊤
-
--- A valid series whose start counts, and of whose rules and excluded rules none has both ends, is read back from its text.
-abbrev pub CalendarIsReadBack : Type 0
-CalendarIsReadBack =
-    (series : Series) → IsValidSeries series → series.start_counts ≡ true → All (λ rule. IsOneEnd rule.end) series.rules → All (λ rule. IsOneEnd rule.end) series.excluded
-    → reads_calendar None (calendar_written series) ≡ Ok series

@@ -40,7 +40,7 @@ item_lt a b = nat_lt (item_rank a) (item_rank b) || is_item_before a b
 
 -- ---- the same order by a key
 
--- the variant, and one more where its number counts from the back
+-- the variant, and one more if its number counts from the back
 abbrev pub group_of : ℕ → ℤ → ℕ
 group_of group (pos n) = group
 group_of group (negsuc n) = group + 1

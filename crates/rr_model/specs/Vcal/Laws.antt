@@ -19,7 +19,7 @@ abbrev pub CounterpartHasMembers : Type 0
 CounterpartHasMembers =
     (rule : VRule) (kind : Kind) (start t : ℤ) → IsValidVRule rule → IsVcalMember rule kind start t ↔ IsMember (rule_of_vrule rule kind start) kind start t
 
--- A valid rule is synchronised exactly where its counterpart is.
+-- A valid rule is synchronised exactly if its counterpart is.
 abbrev pub CounterpartIsSynchronised : Type 0
 CounterpartIsSynchronised =
     (rule : VRule) (kind : Kind) (start : ℤ) → IsValidVRule rule

@@ -29,7 +29,7 @@ family_unit family.MP d = month_number d
 family_unit family.YM d = year_of d
 family_unit family.YD d = year_of d
 
--- the day is what the item says, where the series starts on this day
+-- the day is what the item says, if the series starts on this day
 abbrev pub item_holds : ℤ → Item → ℤ → Bool
 item_holds start Every d = true
 item_holds start (Weekday k) d = k == weekday_of d

@@ -26,12 +26,12 @@ own_items family.MP d = []
 own_items family.YM d = Month (month_of d) ∷ []
 own_items family.YD d = YearDay (day_of_year d) ∷ []
 
--- the items of a rule, or the start's own where none stands
+-- the items of a rule, or the start's own if none stands
 abbrev pub filled_items : FamilyKind → ℤ → List Item → List Item
 filled_items family d [] = own_items family d
 filled_items family d (item ∷ items) = item ∷ items
 
--- the rule beside the start: its end turned into a moment beside it, and its items filled from it where there are none
+-- the rule beside the start: its end turned into a moment beside it, and its items filled from it if there are none
 unfoldable pub vrule_beside : Option ℤ → Stamp → ℕ → Stated VRule → Result VRule Refusal
 vrule_beside offset start line stated =
     end_beside offset start line stated.until stated.rule.end >>= λ end.

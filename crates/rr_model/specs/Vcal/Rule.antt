@@ -60,7 +60,7 @@ parts_of_head line text = do
 abbrev pub is_short_number : List ℕ → Bool
 is_short_number text = is_number text && nat_le (length text) 3
 
--- a short number from 1 to `most`, negative where `from_back` is true; or why it is refused
+-- a short number from 1 to `most`, negative if `from_back` is true; or why it is refused
 abbrev pub place_of : ℕ → ℕ → Bool → List ℕ → Result ℤ Refusal
 place_of line most from_back text =
     if is_short_number text
@@ -82,7 +82,7 @@ front text = take (length text - 1) text
 abbrev pub ends_with : ℕ → List ℕ → Bool
 ends_with b text = bytes_eq (drop (length text - 1) text) (b ∷ [])
 
--- a place with a mark after it: `+` where it counts from the front, `-` where it counts from the back
+-- a place with a mark after it: `+` if it counts from the front, `-` if it counts from the back
 abbrev pub marked_place : ℕ → ℕ → List ℕ → Result ℤ Refusal
 marked_place line most text =
     if ends_with 43 text then place_of line most false (front text) else
@@ -103,7 +103,7 @@ abbrev pub put_places : List Item → ℕ → List ℤ → List Item
 put_places items weekday [] = items
 put_places items weekday (place ∷ places) = put_places (with_value item_lt items (Place place weekday)) weekday places
 
--- the parts with a weekday after the places of its group; refused where no place stands before it
+-- the parts with a weekday after the places of its group; refused if no place stands before it
 abbrev pub with_group_weekday : ℕ → VRuleParts → ℕ → Result VRuleParts Refusal
 with_group_weekday line parts weekday =
     if is_absent parts.places then Err (BadRule line)
@@ -113,7 +113,7 @@ with_group_weekday line parts weekday =
 abbrev pub with_group_place : VRuleParts → ℤ → VRuleParts
 with_group_place parts place = record parts { places = with_value int_lt (if parts.has_weekday then [] else parts.places) place; has_weekday = false }
 
--- the parts with one word more in a group of places: a weekday, or else a place
+-- the parts with one word more in a group of places: a weekday, or otherwise a place
 abbrev pub with_group_word : ℕ → VRuleParts → Option ℕ → List ℕ → Result VRuleParts Refusal
 with_group_word line parts (Some weekday) text = with_group_weekday line parts weekday
 with_group_word line parts None text = marked_place line 5 text >>= λ place. Ok (with_group_place parts place)
@@ -151,7 +151,7 @@ with_count line parts text =
     else (if nat_le (digits_value text) 18_446_744_073_709_551_615 then Ok (record parts { count = Some (digits_value text) }) else Err (NumberRange line)))
     else Err (BadRule line)
 
--- what a word after the list makes of the parts, where the list is whole; else BadRule
+-- what a word after the list makes of the parts, if the list is whole; otherwise BadRule
 abbrev pub after_list : ℕ → VRuleParts → Result VRuleParts Refusal → Result VRuleParts Refusal
 after_list line parts more = if is_list_whole parts.family parts then more else Err (BadRule line)
 
@@ -159,7 +159,7 @@ after_list line parts more = if is_list_whole parts.family parts then more else 
 abbrev pub within_list : ℕ → VRuleParts → List ℕ → Result VRuleParts Refusal
 within_list line parts text = if is_some parts.count || is_some parts.until then Err (BadRule line) else with_list_word line parts parts.family text
 
--- the parts with a number of events, where the word begins with `#`, or else with a word of the list
+-- the parts with a number of events, if the word begins with `#`, or otherwise with a word of the list
 abbrev pub with_marked_word : ℕ → VRuleParts → Option (List ℕ) → List ℕ → Result VRuleParts Refusal
 with_marked_word line parts (Some number) text = after_list line parts (with_count line parts number)
 with_marked_word line parts None text = within_list line parts text
@@ -182,7 +182,7 @@ whole_parts line (Some parts) = after_list line parts (Ok parts)
 
 -- ---- the rule
 
--- two events where no end stands; #0 is no end; an end moment holds beside a number of events
+-- two events if no end stands; #0 is no end; an end moment holds beside a number of events
 abbrev pub end_of_words : Option ℕ → Option Stamp → End
 end_of_words None None = Count 2
 end_of_words (Some m) None = if m == 0 then Never else Count m

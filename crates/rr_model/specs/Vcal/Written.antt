@@ -31,12 +31,12 @@ abbrev pub month_day_text : ℤ → List ℕ
 month_day_text (pos n) = decimal n
 month_day_text (negsuc n) = if n == 0 then codes "LD" else decimal (suc n) ++ codes "-"
 
--- a place, where it is not the one before it
+-- a place, if it is not the one before it
 abbrev pub place_text : Option ℤ → ℤ → List ℕ
 place_text None n = codes " " ++ marked_text n
 place_text (Some before) n = if int_eq before n then [] else codes " " ++ marked_text n
 
--- the items after each other, each after a blank; a place is written where the one before it differs
+-- the items after each other, each after a blank; a place is written if the one before it differs
 abbrev pub items_text : Option ℤ → List Item → List ℕ
 items_text place [] = []
 items_text place (Every ∷ items) = items_text None items

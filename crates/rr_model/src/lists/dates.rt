@@ -43,7 +43,7 @@ impl Dates {
         put_rising(&mut self.items, value)
     }
 
-    /// The values in order.
+    /// The dates from the least to the greatest.
     pub fn as_slice(&self) -> &[i64]
         ensures value { result.now ≡ self.now }
         ensures rises { Rises int_lt result.now }
@@ -65,7 +65,7 @@ impl Dates {
         self.items.len()
     }
 
-    /// The same values, in memory of their own.
+    /// A copy of the list, in memory of its own; `NoMemory` is the only error.
     pub fn copy(&self, alloc: Global) -> Result<Self, NoMemory>
         ensures { IfOk result (λ made. made ≡ self.now) }
     {

@@ -45,7 +45,7 @@ impl DayItems {
         put_rising(&mut self.items, value)
     }
 
-    /// The values in order.
+    /// The values from the least to the greatest.
     pub fn as_slice(&self) -> &[DayItem]
         ensures value { result.now ≡ self.now }
         ensures rises { Rises day_item_lt result.now }
@@ -67,7 +67,7 @@ impl DayItems {
         self.items.len()
     }
 
-    /// The same values, in memory of their own.
+    /// A copy of the list, in memory of its own; `NoMemory` is the only error.
     pub fn copy(&self, alloc: Global) -> Result<Self, NoMemory>
         ensures { IfOk result (λ made. made ≡ self.now) }
     {

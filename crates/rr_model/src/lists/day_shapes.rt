@@ -40,7 +40,7 @@ impl DayShapes {
         Ok(())
     }
 
-    /// The values in order.
+    /// The days, in the order in which they were put.
     pub fn as_slice(&self) -> &[DayShape]
         ensures { result.now ≡ self.now }
     {

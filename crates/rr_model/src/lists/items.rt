@@ -46,7 +46,7 @@ impl Items {
         put_rising(&mut self.items, value)
     }
 
-    /// The values in order.
+    /// The items from the least to the greatest.
     pub fn as_slice(&self) -> &[Item]
         ensures { result.now ≡ self.now }
     {

@@ -8,7 +8,7 @@ use crate::lists::rising::put_rising;
 use std::alloc::Global;
 use std::marker::Model;
 
-/// Numbers, rising without repeats.
+/// The numbers of a BY part, rising without repeats; one from the back is negative (RFC 5545, section 3.3.10).
 #[derive(Drop)]
 pub struct Numbers {
     items: Vec<i16>,
@@ -43,7 +43,7 @@ impl Numbers {
         put_rising(&mut self.items, value)
     }
 
-    /// The values in order.
+    /// The numbers from the least to the greatest.
     pub fn as_slice(&self) -> &[i16]
         ensures value { result.now ≡ self.now }
         ensures rises { Rises int_lt result.now }
@@ -65,7 +65,7 @@ impl Numbers {
         self.items.len()
     }
 
-    /// The same values, in memory of their own.
+    /// A copy of the list, in memory of its own; `NoMemory` is the only error.
     pub fn copy(&self, alloc: Global) -> Result<Self, NoMemory>
         ensures { IfOk result (λ made. made ≡ self.now) }
     {

@@ -17,7 +17,8 @@ fn is_above_last<T: Ord + Copy>(items: &[T], value: T) -> bool
     }
 }
 
-/// Puts the value at its place in a rising list. The list stays as it is where it has the value already, and where memory runs out.
+/// Puts the value at its place in a rising list. The list stays as it is if it has the value already, and if memory
+/// runs out.
 // A value above all others is not searched for.
 pub fn put_rising<T: Ord + Copy>(items: &mut Vec<T>, value: T) -> Result<(), NoMemory>
     requires { Rises (below_by T.cmp) items.old.items }

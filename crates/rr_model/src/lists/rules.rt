@@ -40,7 +40,7 @@ impl Rules {
         Ok(())
     }
 
-    /// The values in order.
+    /// The rules, in the order in which they were put.
     pub fn as_slice(&self) -> &[Rule]
         ensures { result.now ≡ self.now }
     {
@@ -61,7 +61,7 @@ impl Rules {
         self.items.len()
     }
 
-    /// The same rules, in memory of their own.
+    /// A copy of the list and of each rule, in memory of its own; `NoMemory` is the only error.
     pub fn copy(&self, alloc: Global) -> Result<Self, NoMemory>
         ensures { IfOk result (λ made. made ≡ self.now) }
     {

@@ -43,7 +43,7 @@ impl Seconds {
         put_rising(&mut self.items, value)
     }
 
-    /// The values in order.
+    /// The seconds from the least to the greatest.
     pub fn as_slice(&self) -> &[u32]
         ensures value { result.now ≡ self.now }
         ensures rises { Rises nat_lt result.now }

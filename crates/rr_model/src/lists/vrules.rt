@@ -39,7 +39,7 @@ impl VRules {
         Ok(())
     }
 
-    /// The values in order.
+    /// The rules, in the order in which they were put.
     pub fn as_slice(&self) -> &[VRule]
         ensures { result.now ≡ self.now }
     {

@@ -1,6 +1,6 @@
 use Rattle.std.proofs.Common.{◌≡◌, ◌+◌, ◌≤◌, length}
 use Rattle.rr_model.specs.Text.Lines.{physical_lines}
-use Rattle.rr_model.specs.Text.Lists.{empty_list, with_list_lines}
+use Rattle.rr_ical.specs.Lists.{empty_list, with_list_lines}
 use Rattle.rr_ical.specs.Listed.{IsValidListed}
 use Rattle.rr_ical.proofs.list.with_list_lines.Given as goal
 

@@ -4,7 +4,8 @@ use Rattle.std.proofs.lemmas.Iterator.Splits.{YieldsList-from_slice_split}
 use Rattle.std.proofs.lemmas.List.{length_push}
 use Rattle.std.proofs.lemmas.Result.{err_from_is_err_and}
 use Rattle.rr_model.specs.Rising.{day_item_lt}
-use Rattle.rr_model.specs.Text.RuleValues.{pieces, day_item_within}
+use Rattle.rr_model.specs.Text.RuleValues.{pieces}
+use Rattle.rr_rule_parts.specs.Values.{day_item_within}
 use Rattle.rr_rule_parts.proofs.PlacedLemmas.{placed-goes_on, placed-ends, placed-done}
 use Rattle.rr_rule_parts.proofs.lists.day_items_in_order.Goals as goal
 

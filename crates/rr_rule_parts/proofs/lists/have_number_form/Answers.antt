@@ -1,7 +1,7 @@
 use Rattle.std.proofs.Common.{rules, tests, ◌==◌}
 use Rattle.std.proofs.lemmas.Iterator.Search.{all_from_yields_List}
 use Rattle.std.proofs.lemmas.Iterator.Splits.{YieldsList-from_slice_split}
-use Rattle.rr_model.specs.Text.RuleValues.{has_number_form}
+use Rattle.rr_rule_parts.specs.Values.{has_number_form}
 use Rattle.rr_rule_parts.proofs.lists.have_number_form.Goals as goal
 
 pub returns : goal.returns

@@ -6,7 +6,8 @@ use Rattle.std.proofs.lemmas.Iterator.Splits.{YieldsList-from_slice_split}
 use Rattle.std.proofs.lemmas.List.{length_push}
 use Rattle.std.proofs.lemmas.Result.{err_from_is_err_and}
 use Rattle.rr_model.specs.Rising.{with_value}
-use Rattle.rr_model.specs.Text.RuleValues.{pieces, number_within}
+use Rattle.rr_model.specs.Text.RuleValues.{pieces}
+use Rattle.rr_rule_parts.specs.Values.{number_within}
 use Rattle.rr_rule_parts.proofs.PlacedLemmas.{placed-goes_on, placed-ends, placed-done}
 use Rattle.rr_rule_parts.proofs.lists.numbers_in_order.Goals as goal
 

@@ -1,6 +1,7 @@
 use Rattle.std.proofs.Common.{◌≡◌, length, drop, []}
 use Rattle.std.specs.Prelude.{int_lt}
-use Rattle.rr_model.specs.Text.RuleValues.{pieces, rising_values, number_within}
+use Rattle.rr_model.specs.Text.RuleValues.{pieces, rising_values}
+use Rattle.rr_rule_parts.specs.Values.{number_within}
 use Rattle.rr_rule_parts.proofs.lists.numbers_in_order.Given as goal
 
 abbrev pub invariant-loop-piece : goal.invariant-loop-piece

@@ -4,7 +4,7 @@ use Rattle.std.proofs.lemmas.Iterator.Splits.{YieldsList-from_slice_split}
 use Rattle.std.proofs.lemmas.List.{length_push}
 use Rattle.std.proofs.lemmas.Result.{err_from_is_err_and}
 use Rattle.rr_model.specs.Text.RuleValues.{pieces}
-use Rattle.rr_model.specs.Text.Rules.{with_part}
+use Rattle.rr_rule_parts.specs.Rules.{with_part}
 use Rattle.rr_ical.proofs.KeptLemmas.{refused_answers}
 use Rattle.rr_rule_parts.proofs.PartsLemmas.{with_parts-goes_on, with_parts-ends, with_parts-done}
 use Rattle.rr_rule_parts.proofs.parts.parts_between.Goals as goal

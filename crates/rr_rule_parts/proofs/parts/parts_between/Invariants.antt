@@ -1,5 +1,5 @@
 use Rattle.std.proofs.Common.{◌≡◌, length, drop}
-use Rattle.rr_model.specs.Text.Rules.{no_parts, with_parts}
+use Rattle.rr_rule_parts.specs.Rules.{no_parts, with_parts}
 use Rattle.rr_model.specs.Text.RuleValues.{pieces}
 use Rattle.rr_rule_parts.proofs.parts.parts_between.Given as goal
 

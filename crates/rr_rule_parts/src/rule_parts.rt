@@ -1,8 +1,8 @@
 // The text of a rule, part by part, before the rule is complete.
 ghost use Rattle.std.specs.Prelude.{◌≡◌};
-ghost use Rattle.rr_model.specs.Text.RuleValues.{unsigned_bounds, signed_bounds, second_bounds};
+ghost use Rattle.rr_rule_parts.specs.Values.{unsigned_bounds, signed_bounds, second_bounds};
 
-use crate::{DayItems, Freq, Numbers, Stamp};
+use rr_model::{DayItems, Freq, Numbers, Stamp};
 
 /// The name of a part of a rule (RFC 5545, section 3.3.10).
 #[derive(Clone, Copy, Debug, PartialEq, Eq)]
@@ -17,23 +17,23 @@ pub enum PartName {
     Interval,
     /// WKST, the first weekday of a week.
     WeekStart,
-    /// BYSECOND.
+    /// BYSECOND, seconds of the minute.
     BySecond,
-    /// BYMINUTE.
+    /// BYMINUTE, minutes of the hour.
     ByMinute,
-    /// BYHOUR.
+    /// BYHOUR, hours of the day.
     ByHour,
-    /// BYDAY.
+    /// BYDAY, weekdays with or without an ordinal.
     ByDay,
-    /// BYMONTHDAY.
+    /// BYMONTHDAY, days of the month.
     ByMonthDay,
-    /// BYYEARDAY.
+    /// BYYEARDAY, days of the year.
     ByYearDay,
-    /// BYWEEKNO.
+    /// BYWEEKNO, weeks of the year.
     ByWeekNo,
-    /// BYMONTH.
+    /// BYMONTH, months of the year.
     ByMonth,
-    /// BYSETPOS.
+    /// BYSETPOS, which of the members of one unit of FREQ.
     BySetPos,
 }
 
@@ -75,7 +75,7 @@ impl NumberBounds {
         }
     }
 
-    /// Seconds of a minute, 0 to 59, where 60 has a refusal of its own.
+    /// Seconds of a minute, 0 to 59; 60 has a refusal of its own, `LeapSecond`.
     pub fn seconds() -> Self
         ensures { result ≡ second_bounds }
     {
@@ -91,32 +91,32 @@ impl NumberBounds {
 /// The parts of a rule as far as they are read. A part that is absent is `None`, or an empty list.
 #[derive(Drop)]
 pub struct RuleParts {
-    /// FREQ.
+    /// FREQ, the unit in which the rule repeats.
     pub freq: Option<Freq>,
     /// UNTIL, with the `Z` after it.
     pub until: Option<Stamp>,
-    /// COUNT.
+    /// COUNT, how many members the rule has at most, from 1.
     pub count: Option<u64>,
-    /// INTERVAL.
+    /// INTERVAL, every how many units it applies, from 1.
     pub interval: Option<u32>,
     /// WKST, from 0 for Monday.
     pub week_start: Option<u8>,
-    /// BYSECOND.
+    /// BYSECOND, seconds of the minute, 0 to 59.
     pub by_second: Numbers,
-    /// BYMINUTE.
+    /// BYMINUTE, minutes of the hour, 0 to 59.
     pub by_minute: Numbers,
-    /// BYHOUR.
+    /// BYHOUR, hours of the day, 0 to 23.
     pub by_hour: Numbers,
-    /// BYDAY.
+    /// BYDAY, weekdays with or without an ordinal.
     pub by_day: DayItems,
-    /// BYMONTHDAY.
+    /// BYMONTHDAY, days of the month, 1 to 31 and -31 to -1.
     pub by_month_day: Numbers,
-    /// BYYEARDAY.
+    /// BYYEARDAY, days of the year, 1 to 366 and -366 to -1.
     pub by_year_day: Numbers,
-    /// BYWEEKNO.
+    /// BYWEEKNO, weeks of the year, 1 to 53 and -53 to -1.
     pub by_week_no: Numbers,
-    /// BYMONTH.
+    /// BYMONTH, months, 1 to 12.
     pub by_month: Numbers,
-    /// BYSETPOS.
+    /// BYSETPOS, which of the members of one unit of FREQ, 1 to 366 and -366 to -1.
     pub by_set_pos: Numbers,
 }
