@@ -142,7 +142,7 @@ impl Pages {
     }
 
     /// Puts a number in the place of the one at an index. Once there are pages, it is put into a copy of its page, and a page more
-    /// is kept if no known one has these numbers. It takes no time that grows with the list.
+    /// is kept if no known one has these numbers.
     pub fn set(&mut self, index: usize, number: u32) -> Result<(), NoMemory>
         requires { index < length self.old }
         ensures ok { OnOk result (self.new ≡ set self.old index number) }

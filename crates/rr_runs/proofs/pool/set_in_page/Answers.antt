@@ -1,6 +1,5 @@
 use Rattle.std.proofs.Common.{◌≡◌, ◌+◌, List, ℕ, get_or, take, drop, set, length, refl, ap, subst, ◌∙◌, arith}
 use Rattle.std.proofs.lemmas.Grind.{get_or_default_zero}
-use Rattle.std.proofs.lemmas.List.{length-set}
 use Rattle.rr_runs.specs.Pages.{IsPageOf, page_numbers}
 use Rattle.rr_runs.proofs.PagesLemmas.{length_page, number_set, pages_set}
 use Rattle.rr_runs.proofs.pool.set_in_page.Goals.{After-rest_of_page}
