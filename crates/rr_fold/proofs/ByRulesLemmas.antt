@@ -1,8 +1,7 @@
 -- What stands in a series, told by its rules and dates from a day on.
-use Rattle.std.proofs.Common.{◌≡◌, ◌≢◌, ℕ, Bool, true, false, not, ◌&&◌, ◌||◌, List, [], ◌∷◌, ◌++◌, All, ℤ, ◌≤ℤ◌, ◌<ℤ◌, refl, sym, ap, ◌∙◌, inl, inr, arith}
-use Rattle.std.proofs.Math.Bool.{and-true, or-false, or_assoc}
-use Rattle.std.proofs.lemmas.Bool.{and_parts, or_from, or_left}
-use Rattle.std.proofs.lemmas.Int.{by_lt_z, ints}
+use Rattle.std.proofs.Common.{◌≡◌, ◌≢◌, ℕ, Bool, true, not, ◌&&◌, ◌||◌, List, [], ◌∷◌, ◌++◌, All, ℤ, ◌≤ℤ◌, refl, sym, ap, ◌∙◌, inl, inr, arith}
+use Rattle.std.proofs.Math.Bool.{and-true, or-false, or_assoc, or_comm}
+use Rattle.std.proofs.lemmas.Bool.{and_parts, or_left}
 use Rattle.rr_iter.proofs.AloneLemmas.{start_stands}
 use Rattle.rr_walk.proofs.StepLemmas.{before_start}
 use Rattle.rr_lazy.proofs.StretchLemmas.{listed, moment_day, moment_second}
@@ -19,9 +18,11 @@ use Rattle.rr_model.specs.declared.rule.End.{End}
 use Rattle.rr_model.specs.declared.rule.End.TheVariants.{Never, Until, Count, Both}
 use Rattle.rr_model.specs.declared.rule.Rule.{Rule}
 use Rattle.rr_model.specs.declared.rule.Series.{Series}
-use Rattle.rr_fold.proofs.DatesFromLemmas.{among_from, none_among, none_among_from, start_adds_nothing}
+use Rattle.rr_fold.proofs.DatesFromLemmas.{among_from, start_adds_nothing}
+use Rattle.rr_fold.specs.Dated.{changed}
 use Rattle.rr_fold.specs.Folding.{HasNoDayBefore}
-use Rattle.rr_fold.specs.Rules.{HasRules, dates_from, given_from, kept_from, members_of_rules}
+use Rattle.rr_fold.specs.Rules.{HasRules, given_from, kept_from, members_of_rules}
+use Rattle.rr_fold.specs.declared.dated.Change.TheVariants.{Add, TakeOut}
 
 -- ---- rules
 
@@ -36,11 +37,6 @@ module _ (kind : Kind) (start : ℤ) where
   -- no member lies before the start's day
   pub members_early : (rule : Rule) → HasNoDayBefore (members_of kind start rule) (day_part kind start)
   members_early rule = ended_early kind rule.end (chosen_of rule kind start) (day_part kind start) (λ d s l. before_start rule kind start d s l)
-
-  rules_early : (rules : List Rule) (d : ℤ) (s : ℕ) → d <ℤ day_part kind start → some_stands_at (members_of_all kind start rules) d s ≡ false
-  rules_early [] d s l = refl
-  rules_early (rule ∷ rules) d s l =
-      or_from (stands_at (members_of kind start rule) d s) (some_stands_at (members_of_all kind start rules) d s) (members_early rule d s l) (rules_early rules d s l)
 
   -- so it is of one rule alone
   pub first_rule : (rule : Rule) (d : ℤ) (s : ℕ) → stands_at (members_of kind start rule) d s ≡ stands_at (members_of_rules kind start (rule ∷ [])) d s
@@ -77,50 +73,25 @@ module _ (kind : Kind) (start : ℤ) where
 
 -- ---- the series
 
--- without dates it has the members of its rules
-pub no_plus : (series : Series) (first : ℤ) → series.plus ≡ [] → (d : ℤ) (s : ℕ)
-    → stands_at (members_of_rules series.kind series.start series.rules) d s ≡ stands_at (given_from series first) d s
-no_plus series first none d s = sym (ap (λ b. b || stands_at (members_of_rules series.kind series.start series.rules) d s)
-    (none_among series.kind first d s series.plus none))
+-- from a day on, the dates added stand beside the members of the rules
+pub given_alike : (series : Series) (first d : ℤ) (s : ℕ) → first ≤ℤ d
+    → changed Add series.kind series.plus (stands_at (members_of_rules series.kind series.start series.rules)) d s ≡ stands_at (given_from series first) d s
+given_alike series first d s l =
+    let rules : Bool = stands_at (members_of_rules series.kind series.start series.rules) d s in
+    or_comm rules (is_among series.kind series.plus d s) ∙ ap (λ b. b || rules) (sym (among_from series.kind first d s series.plus l))
 
 -- without an excluded rule all that is given is kept
 pub no_excluded : (series : Series) (first : ℤ) → series.excluded ≡ [] → (d : ℤ) (s : ℕ)
     → stands_at (given_from series first) d s ≡ stands_at (kept_from series first) d s
 no_excluded series first none d s = rw none (sym (and-true (stands_at (given_from series first) d s)))
 
-module _ (series : Series) (first end : ℤ) (sound : IsSound series) (has : HasRules series first end) (early : HasNoDayBefore (tree_of series) first) where
-  early_alike : (d : ℤ) (s : ℕ) → d <ℤ first
-      → stands_at (tree_of series) d s ≡ (stands_at (kept_from series first) d s && not (is_among series.kind (dates_from series.kind first series.minus) d s))
-  early_alike d s l =
-      let a = none_among_from series.kind first d s series.plus l in
-      let b = rules_early series.kind series.start series.rules d s (omega (arith, ints, l, has.begun)) in
-      let none = early d s l in
-      none ∙ sym (ap (λ x. ((x || some_stands_at (members_of_all series.kind series.start series.rules) d s)
-      && not (some_stands_at (members_of_all series.kind series.start series.excluded) d s))
-      && not (is_among series.kind (dates_from series.kind first series.minus) d s)) a
-      ∙ ap (λ x. (x && not (some_stands_at (members_of_all series.kind series.start series.excluded) d s))
-      && not (is_among series.kind (dates_from series.kind first series.minus) d s)) b)
-
-  late_alike : (d : ℤ) (s : ℕ) → first ≤ℤ d
-      → stands_at (tree_of series) d s ≡ (stands_at (kept_from series first) d s && not (is_among series.kind (dates_from series.kind first series.minus) d s))
-  late_alike d s l =
-      let rules : Bool = some_stands_at (members_of_all series.kind series.start series.rules) d s in
-      let out : Bool = some_stands_at (members_of_all series.kind series.start series.excluded) d s in
-      let minus = among_from series.kind first d s series.minus l in
-      let given = start_adds_nothing series.start_counts series.kind series.plus series.start d s rules
-      (start_member series.kind series.start series.rules has.some sound.valid.start sound.valid.rules sound.rules d s)
-      ∙ ap (λ b. b || rules) (sym (among_from series.kind first d s series.plus l)) in
-      ap (λ b. (b && not out) && not (is_among series.kind series.minus d s)) given
-      ∙ ap (λ b. stands_at (kept_from series first) d s && not b) (sym minus)
-
-  -- the dates taken out are taken out of what is kept
-  pub series_alike : (d : ℤ) (s : ℕ)
-      → stands_at (tree_of series) d s ≡ (stands_at (kept_from series first) d s && not (is_among series.kind (dates_from series.kind first series.minus) d s))
-  series_alike d s =
-      by_lt_z {P = stands_at (tree_of series) d s
-      ≡ (stands_at (kept_from series first) d s && not (is_among series.kind (dates_from series.kind first series.minus) d s))} d first (early_alike d s) (late_alike d s)
-
-  -- where there are none, all that is kept is left
-  pub no_minus : series.minus ≡ [] → (d : ℤ) (s : ℕ) → stands_at (kept_from series first) d s ≡ stands_at (tree_of series) d s
-  no_minus none d s = sym (series_alike d s ∙ ap (λ b. stands_at (kept_from series first) d s && not b) (none_among series.kind first d s series.minus none)
-      ∙ and-true (stands_at (kept_from series first) d s))
+-- from a day on, what is kept stands in the series without the dates taken out
+pub series_alike : (series : Series) (first end : ℤ) → IsSound series → HasRules series first end → (d : ℤ) (s : ℕ) → first ≤ℤ d
+    → changed TakeOut series.kind series.minus (stands_at (kept_from series first)) d s ≡ stands_at (tree_of series) d s
+series_alike series first end sound has d s l =
+    let rules : Bool = some_stands_at (members_of_all series.kind series.start series.rules) d s in
+    let out : Bool = some_stands_at (members_of_all series.kind series.start series.excluded) d s in
+    let given = start_adds_nothing series.start_counts series.kind series.plus series.start d s rules
+    (start_member series.kind series.start series.rules has.some sound.valid.start sound.valid.rules sound.rules d s)
+    ∙ ap (λ b. b || rules) (sym (among_from series.kind first d s series.plus l)) in
+    sym (ap (λ b. (b && not out) && not (is_among series.kind series.minus d s)) given)

@@ -34,18 +34,18 @@ none_holds Union a b e f = or_from a b e f
 none_holds Common a b e f = rw e refl
 none_holds Minus a b e f = rw e refl
 
+-- the combination of a day's two sets is that of what stands by both
+pub made_set : (op : Op) (x y times : List ℕ) (a b both : ℕ → Bool) → ((s : ℕ) → both s ≡ holds op (a s) (b s)) → IsSetOf nat_lt x (λ s. IsTrue (a s))
+    → IsSetOf nat_lt y (λ s. IsTrue (b s)) → IsMadeOf op x y times → IsSetOf nat_lt times (λ s. IsTrue (both s))
+made_set op x y times a b both same f g set =
+    set_same nat_lt (λ s. HoldsFor op (Contains x s) (Contains y s)) (λ s. IsTrue (both s)) times set (λ s. (
+    let is = has_is op x y s (a s) (b s) (f.exact s) (g.exact s) in
+    ((λ h. same s ∙ is.0 h), (λ t. is.1 (sym (same s) ∙ t))))
+    )
+
 module _ (op : Op) (tree a b : Tree) (first end : ℤ) (one : List (List ℕ)) (ones : List ℕ) (other : List (List ℕ)) (others : List ℕ) (sets : List (List ℕ))
     (numbers : List ℕ) (folded : IsFoldedTo a first end one ones) (more : IsFoldedTo b first end other others) (long : end ≡ first +ℤ pos (length ones))
     (as_long : end ≡ first +ℤ pos (length others)) (both : (d : ℤ) (s : ℕ) → stands_at tree d s ≡ holds op (stands_at a d s) (stands_at b d s)) where
-  -- the combination of a day's sets in both trees is its set in the tree
-  made_set : (day : ℤ) (x y times : List ℕ) → IsSetOf nat_lt x (λ s. IsTrue (stands_at a day s)) → IsSetOf nat_lt y (λ s. IsTrue (stands_at b day s))
-      → IsMadeOf op x y times → IsSetOf nat_lt times (λ s. IsTrue (stands_at tree day s))
-  made_set day x y times f g set =
-      set_same nat_lt (λ s. HoldsFor op (Contains x s) (Contains y s)) (λ s. IsTrue (stands_at tree day s)) times set (λ s. (
-      let is = has_is op x y s (stands_at a day s) (stands_at b day s) (f.exact s) (g.exact s) in
-      ((λ h. both day s ∙ is.0 h), (λ t. is.1 (sym (both day s) ∙ t))))
-      )
-
   module _ (combined : AreCombined op one ones other others sets numbers) where
     numbered : AreNumbered tree first sets numbers
     numbered k l =
@@ -54,8 +54,8 @@ module _ (op : Op) (tree a b : Tree) (first end : ℤ) (one : List (List ℕ)) (
         let g = more.numbered k (omega (arith, ints, l, combined.whole, long, as_long)) in
         record {
           within = u.within;
-          all = made_set (first +ℤ pos k) (get_or one (get_or ones k 0) []) (get_or other (get_or others k 0) []) (get_or sets (get_or numbers k 0) [])
-              f.all g.all u.made;
+          all = made_set op (get_or one (get_or ones k 0) []) (get_or other (get_or others k 0) []) (get_or sets (get_or numbers k 0) [])
+              (stands_at a (first +ℤ pos k)) (stands_at b (first +ℤ pos k)) (stands_at tree (first +ℤ pos k)) (both (first +ℤ pos k)) f.all g.all u.made;
         }
 
     -- a set that is not empty is that of a day

@@ -2,7 +2,7 @@
 use Rattle.std.proofs.Common.{◌≡◌, ◌+◌, ◌<◌, ℕ, zero, suc, Bool, true, false, ◌&&◌, ◌||◌, cond, List, [], ◌∷◌, ◌++◌, length, get_or, take, Contains, ℤ, ◌≤ℤ◌, ◌<ℤ◌, int_eq, refl, sym, ap, ◌∙◌, inl, inr, arith}
 use Rattle.std.specs.Prelude.{IsTrue, filter, if◌then◌else◌, int_le, int_lt}
 use Rattle.std.specs.List.{list_any}
-use Rattle.std.proofs.lemmas.Bool.{and_right, false_from_ne_true, false≢true, or_right}
+use Rattle.std.proofs.lemmas.Bool.{false_from_ne_true, false≢true, or_right}
 use Rattle.std.proofs.lemmas.Int.{ints}
 use Rattle.std.proofs.lemmas.List.Elements.{Contains-get_or, filter_more}
 use Rattle.rr_lazy.proofs.StretchLemmas.{moment_day}
@@ -120,10 +120,6 @@ module _ (kind : Kind) (first d : ℤ) (s : ℕ) (dates : List ℤ) where
             none_kept (λ t. int_le first (day_part kind t)) dates (moment_at kind d s) fails)
         | false ↦ λ h. refl
       ] refl
-
-  -- of no dates none stands
-  pub none_among : dates ≡ [] → is_among kind (dates_from kind first dates) d s ≡ false
-  none_among none = rw none (and_right (has_second kind s) false refl)
 
 -- ---- a start among dates
 

@@ -1,4 +1,5 @@
 pub mod ByRulesLemmas
+pub mod DatedLemmas
 pub mod DatesFromLemmas
 pub mod LedLemmas
 pub mod CountedJumpLemmas

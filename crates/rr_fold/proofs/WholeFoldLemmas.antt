@@ -1,8 +1,7 @@
 -- What the folded days of a series meet, and how the series is judged by them.
-use Rattle.std.proofs.Common.{◌≡◌, ℕ, ◌<◌, ◌≤◌, List, length, get_or, ℤ, pos, ◌+ℤ◌, ◌≤ℤ◌, refl, ap, subst, inl, inr, arith}
+use Rattle.std.proofs.Common.{◌≡◌, ℕ, ◌≤◌, List, length, ℤ, pos, ◌+ℤ◌, ◌≤ℤ◌, refl, ap, subst, inl, inr, arith}
 use Rattle.std.specs.Prelude.{Some, Result, Ok, Err}
 use Rattle.std.proofs.lemmas.Int.{ints}
-use Rattle.std.proofs.lemmas.List.{get_or_default}
 use Rattle.rr_model.specs.Bounds.{first_day_of_all}
 use Rattle.rr_model.specs.Answers.{RefusedExactlyWhere}
 use Rattle.rr_model.specs.Moment.{day_part}
@@ -12,6 +11,7 @@ use Rattle.rr_model.specs.Series.Limits.{IsCountedTooFar, IsTooManyMoments}
 use Rattle.rr_model.specs.Series.Settled.{IsSettledDay}
 use Rattle.rr_model.specs.Series.Soundness.{IsSound}
 use Rattle.rr_model.specs.Series.Tree.{tree_of}
+use Rattle.rr_model.specs.Sets.Tree.{stands_at}
 use Rattle.rr_model.specs.declared.refusal.Fault.{Fault}
 use Rattle.rr_model.specs.declared.refusal.Fault.TheVariants.{Refused, NoMemory}
 use Rattle.rr_model.specs.declared.refusal.Refusal.TheVariants.{CountedTooFar, TooManyMoments}
@@ -20,18 +20,18 @@ use Rattle.rr_model.specs.declared.limits.TheConstants.{MAX_CYCLE_DAYS}
 use Rattle.rr_model.proofs.YearLemmas.{four_digit_bounds}
 use Rattle.rr_num.proofs.DivisorLemmas.{lcm_some}
 use Rattle.rr_check.proofs.SeriesCycleLemmas.{have_intervals, rules_cycle_some}
-use Rattle.rr_fold.specs.Folding.{IsFoldedTo}
+use Rattle.rr_fold.specs.Dated.{AreNumberedDays}
 use Rattle.rr_fold.specs.Judged.{all_limits, IsFoldJudged}
 use Rattle.rr_days.specs.Sketched.{IsWholeFold}
-use Rattle.rr_fold.proofs.KindLemmas.{is_time_set, stands_second, tree_of_kind}
+use Rattle.rr_fold.proofs.DatedLemmas.{numbers_within_sets}
 
 -- ---- the folded days
 
 pub whole_fold : (series : Series) (sets : List (List ℕ)) (numbers : List ℕ) (first settled end : ℤ) (period : ℕ) → IsSound series → IsSettledDay series settled
-    → IsFoldedTo (tree_of series) first end sets numbers → end ≡ first +ℤ pos (length numbers) → end ≡ settled +ℤ pos period
+    → AreNumberedDays series.kind (stands_at (tree_of series)) first sets numbers → end ≡ first +ℤ pos (length numbers) → end ≡ settled +ℤ pos period
     → 1 ≤ period → period ≤ MAX_CYCLE_DAYS → first_day_of_all ≤ℤ first → first ≤ℤ day_part series.kind series.start → settled ≤ℤ pos 20_000_000
     → IsWholeFold series.kind sets numbers first settled period
-whole_fold series sets numbers first settled end period sound settled_is folded whole end_is some few low order high =
+whole_fold series sets numbers first settled end period sound settled_is days whole end_is some few low order high =
     let late = settled_is.past.start in
     record {
       order = omega (arith, ints, late, order);
@@ -40,10 +40,8 @@ whole_fold series sets numbers first settled end period sound settled_is folded 
       few = omega (arith, few);
       low = omega (arith, ints, low);
       high = omega (arith, ints, few, high);
-      within = λ k d l. subst (λ n. n < length sets) (get_or_default numbers k 0 d l) (folded.numbered k l).within;
-      time_sets = λ k d l n. (
-          let t = folded.sets_of_days k d l n in
-          is_time_set series.kind (get_or sets k d) _ n t.all (λ s e. stands_second series.kind (tree_of series) t.day s (tree_of_kind series sound) e));
+      within = numbers_within_sets series.kind (stands_at (tree_of series)) first sets numbers days;
+      time_sets = days.time_sets;
     }
 
 pub cycle_some : (series : Series) → IsSound series → 1 ≤ series_cycle series

@@ -40,7 +40,7 @@ pub record IsFoldedTo (tree : Tree) (first position : ℤ) (sets : List (List �
 abbrev pub AreDaysOf : Tree → ℤ → ℤ → FoldedDays → Type 0
 AreDaysOf tree first end days = IsFoldedTo tree first end days.shapes days.numbers
 
--- too many moments exactly where the days of a tree before the end have them, or out of memory
+-- too many moments exactly if the days of a tree before the end have them, or out of memory
 abbrev pub RefusesTooMany : {X : Type 0} → Tree → ℤ → Result X Fault → Type 0
 RefusesTooMany tree end result = RefusedExactlyWhere (HasTooManyMoments tree end) TooManyMoments result
 

@@ -4,5 +4,6 @@ pub mod Jump
 pub mod Rules
 pub mod Numbering
 pub mod Combined
+pub mod Dated
 pub mod Walks
 pub mod Years

@@ -33,7 +33,7 @@ pub record IsFiner (rule : Rule) (period : ℕ) : Type 0 where
   pub positions : is_absent rule.by_set_pos ≡ true
   pub of_interval : period ≡ interval_cycle rule.freq rule.interval
 
--- Years of one key have the same days where whole periods of this many days lie between their first days.
+-- Years of one key have the same days if whole periods of this many days lie between their first days.
 abbrev pub RepeatsByYears : Rule → ℕ → Type 0
 RepeatsByYears rule period = LeavesNoUnitOut rule ⊎ IsFiner rule period
 
@@ -71,7 +71,7 @@ pub record IsKeptYear (rule : Rule) (period : ℕ) (first : ℤ) (days slot inde
   pub begins : first_day_of_year year ≡ first +ℤ pos index
   pub ends : index + days_in_year year ≤ days
 
--- there is an entry for each slot; where one is known, a year of that slot begins at its index
+-- there is an entry for each slot; if one is known, a year of that slot begins at its index
 pub record AreKeptYears (rule : Rule) (period : ℕ) (first : ℤ) (days : ℕ) (kept : List (Option ℕ)) : Type 0 where
   pub places : length kept ≡ 56 * period
   pub years : (slot index : ℕ) → slice_get kept slot ≡ Some (Some index) → IsKeptYear rule period first days slot index

@@ -11,7 +11,7 @@ use rr_runs::Pages;
 use rr_shapes::{FoldedSetId, Pair, Shapes};
 use std::alloc::Global;
 
-// How many free days follow an occupied one, at least, where it is combined alone.
+// How many free days follow an occupied one, at least, if it is combined alone.
 const MANY_FREE: usize = 16;
 
 // Two numbers of sets, one of each list, and that of their combination.
@@ -31,7 +31,7 @@ struct FreeTo {
 
 /// The days of two lists, which begin on the same day and are equally long, combined day by day.
 ///
-/// `TooManyMoments` where the distinct sets of the result have together more than `MAX_SECONDS` seconds. Two sets are combined
+/// `TooManyMoments` if the distinct sets of the result have together more than `MAX_SECONDS` seconds. Two sets are combined
 /// once. Days that are free in both lists are passed over, and of days in a row with the same two sets only the first is looked
 /// up.
 pub fn combination_of(
@@ -77,7 +77,7 @@ fn free_from(known: FreeTo, one: &Pages, other: &Pages, index: usize) -> FreeTo
     }
 }
 
-// The same of one list.
+// Up to which index a list is surely free from an index on, by what is known of it, or is found out.
 fn free_to(known: usize, numbers: &Pages, index: usize) -> usize
     requires within { index < length numbers.now }
     requires known { IsFreeTo numbers.now index known }

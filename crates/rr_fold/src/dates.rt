@@ -14,8 +14,8 @@ use rr_model::{Dates, Fault, Kind, NoMemory, day_part};
 use rr_runs::Pages;
 use std::alloc::Global;
 
-/// The days of the dates that lie on a day or after it, from that day on and below another. `TooManyMoments` where their distinct
-/// sets have together more than `MAX_SECONDS` seconds.
+/// The days of the dates that lie on `first` or after it, from there on and below `end`, both in days since 1970-01-01.
+/// `TooManyMoments` if their distinct sets have together more than `MAX_SECONDS` seconds.
 pub fn days_of_dates(
     alloc: Global,
     kind: Kind,
@@ -59,7 +59,7 @@ fn put_from(later: &mut Dates, kind: Kind, date: i64, first: i64) -> Result<(), 
     later.put(date)
 }
 
-/// The days with `free` free ones before them.
+/// The days with `free` free ones before them, each with number 0. Without any the list is not copied.
 pub fn led_by_free(alloc: Global, days: FoldedDays, free: usize) -> Result<FoldedDays, NoMemory>
     ensures shapes { IfOk result (λ led. led.shapes ≡ days.shapes) }
     ensures numbers { IfOk result (λ led. led.numbers ≡ replicate free 0 ++ days.numbers) }

@@ -8,7 +8,7 @@ ghost use Rattle.rr_fold.specs.Folding.{HasNoDayBefore};
 
 use rr_model::{Series, day_part};
 
-/// The earlier of the day of the start and the day of the first date added: no day before it is occupied.
+/// The earlier of the day of the start and the day of the first date added, in days since 1970-01-01: no day before it is occupied.
 pub fn first_day(series: &Series) -> i64
     requires { IsSound series.now }
     ensures early { HasNoDayBefore (tree_of series.now) result }

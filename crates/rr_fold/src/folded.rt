@@ -22,15 +22,15 @@ use std::alloc::Global;
 
 /// Folds a series whose cycle is at most `MAX_CYCLE_DAYS`, as `admit` gives it.
 ///
-/// `CountedTooFar` where a rule or an excluded rule with COUNT and no UNTIL has fewer members than it counts up to `MAX_SPAN_DAYS`
-/// days after the start's day, and else
-/// `TooManyMoments` where the distinct time sets up to a cycle past the settled day, those of the occurrences that are left,
+/// `CountedTooFar` if a rule or an excluded rule with COUNT and no UNTIL has fewer members than it counts up to `MAX_SPAN_DAYS`
+/// days after the start's day, and otherwise
+/// `TooManyMoments` if the distinct time sets up to a cycle past the settled day, those of the occurrences that are left,
 /// have together more than `MAX_SECONDS` seconds.
 ///
-/// It keeps four bytes for nine weeks of these days, and the numbers of each distinct nine weeks once: four bytes a day where
+/// It keeps four bytes for nine weeks of these days, and the numbers of each distinct nine weeks once: four bytes a day if
 /// no two are alike. While the days of two rules are united or excluded days are taken out it keeps three such lists. A series
-/// of more than 200,000 days is folded rule by rule, and so are one rule alone and endless rules alone; any other is walked day by
-/// day. Of a rule with COUNT the days of a few cycles are walked, and of an endless one those of one year of each kind: of rules of
+/// of more than 200,000 days is folded rule by rule, and so are one rule alone, and endless rules with at most 64 dates, which are then
+/// set in place; any other is walked day by day. Of a rule with COUNT the days of a few cycles are walked, and of an endless one those of one year of each kind: of rules of
 /// whole days that leave no unit out, and of rules of hours, minutes or seconds, whose years also differ by the place of their
 /// first day in the rule's period. The others are copied.
 pub fn fold(alloc: Global, series: &Checked) -> Result<Folded, Fault>

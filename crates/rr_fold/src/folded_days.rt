@@ -4,6 +4,7 @@ ghost use Rattle.rr_model.specs.Bounds.{first_day_of_all};
 ghost use Rattle.rr_model.specs.Series.Tree.{tree_of};
 ghost use Rattle.rr_iter.specs.Counts.{AreCountsOf};
 ghost use Rattle.rr_lazy.specs.Next.{IsUnasked};
+ghost use Rattle.rr_fold.specs.Dated.{AreDaysIn};
 ghost use Rattle.rr_fold.specs.Folding.{AreDaysOf, HasNoDayBefore, RefusesTooMany};
 
 use crate::rules::{days_by_rules, goes_by_rules};
@@ -17,17 +18,19 @@ use rr_runs::Pages;
 use rr_shapes::Shapes;
 use std::alloc::Global;
 
-/// Days in a row from a first one on, each as the number of its time set; the empty set has number 0.
+/// Days in a row from a first one on, each as the number of its time set; the empty set has number 0. There may be sets that no day
+/// has.
 #[derive(Drop)]
 pub struct FoldedDays {
-    /// The number of each day.
+    /// The number of each day, in the order of days.
     pub numbers: Pages,
-    /// The sets of these numbers.
+    /// The sets by their numbers, each the seconds of a day from 0 to 86,399.
     pub shapes: Shapes,
 }
 
-/// The days of a series from one on and below another, where no day before the first is occupied: rule by rule where that pays,
-/// and day by day else, or where a rule, or some of them together, ask for too much. What was counted of the rules is taken as given.
+/// The days of a series from `first` on and below `end`, both in days since 1970-01-01, if no day before the first is occupied: rule by
+/// rule if that pays, and otherwise day by day, or if a rule, or some of them together, ask for too much. What was counted of the
+/// rules is taken as given. `TooManyMoments` exactly if the distinct sets of these days have more than `MAX_SECONDS` seconds.
 pub fn folded_days(
     alloc: Global,
     series: &Checked,
@@ -40,7 +43,7 @@ pub fn folded_days(
     requires order { first <ℤ end }
     requires high { end ≤ℤ pos 40_000_000 }
     requires early { HasNoDayBefore (tree_of series.now) first }
-    ensures folded { IfOk result (AreDaysOf (tree_of series.now) first end) }
+    ensures folded { IfOk result (AreDaysIn series.now.kind (tree_of series.now) first) }
     ensures whole { IfOk result (λ days. end ≡ first +ℤ pos (length days.numbers)) }
     ensures refused { RefusesTooMany (tree_of series.now) end result }
 {
@@ -52,7 +55,7 @@ pub fn folded_days(
     days_by_walk(alloc, series, first, end)
 }
 
-// The days, each walked.
+// The days of a series from one on and below another, each of them walked.
 fn days_by_walk(alloc: Global, series: &Checked, first: i64, end: i64) -> Result<FoldedDays, Fault>
     requires low { first_day_of_all ≤ℤ first }
     requires order { first <ℤ end }

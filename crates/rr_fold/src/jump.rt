@@ -20,17 +20,17 @@ use std::alloc::Global;
 // Whole cycles after the first one, which hold the same days again, and the count that a rule has without their members.
 #[derive(Clone, Copy)]
 struct Jump {
-    // The days of a cycle.
+    // How many days a cycle has.
     cycle: u64,
     // How many cycles are left out.
     cycles: u64,
-    // The count without them.
+    // How many members are left to count without those of these cycles.
     count: u64,
 }
 
 /// The days of a rule with COUNT, from its start's day on and below another: of whole cycles after the first one, which hold the
-/// same days again, the days are copied, and those of the others are walked. Where nothing was counted, all are walked.
-/// `TooManyMoments` where the distinct sets of the days that are walked have together more than `MAX_SECONDS` seconds.
+/// same days again, the days are copied, and those of the others are walked. If nothing was counted, all are walked.
+/// `TooManyMoments` if the distinct sets of the days that are walked have together more than `MAX_SECONDS` seconds.
 pub fn days_counted(
     alloc: Global,
     rule: &Rule,
@@ -57,7 +57,7 @@ pub fn days_counted(
     }
 }
 
-// The days of a rule, each walked up to its end.
+// The days of a rule from its start's day on and below another, each walked up to the rule's end.
 pub(crate) fn days_ended(
     alloc: Global,
     rule: &Rule,
@@ -108,7 +108,7 @@ fn days_by_jump(
 }
 
 // The whole cycles of a rule with COUNT that can be left out of the days from its start's on and below another, by the members that
-// were counted in a cycle and after the first one. None where the days end within the first cycle.
+// were counted in a cycle and after the first one. None if the days end within the first cycle.
 fn jump_of(
     rule: &Rule,
     kind: Kind,

@@ -2,6 +2,7 @@
 #![tactic(auto)]
 
 mod combination;
+mod dated;
 mod dates;
 mod first_day;
 mod folded;

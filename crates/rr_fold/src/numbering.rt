@@ -21,7 +21,7 @@ pub(crate) struct Known {
 }
 
 // The table of sets on which the iterators draw, none of which counts before it is that of an occupied day, and for each of its
-// sets the number that was given for it last. Only where that is not known is a set looked for among those of folded days.
+// sets the number that was given for it last. Only if that is not known is a set looked for among those of folded days.
 #[derive(Drop)]
 pub(crate) struct Numbering {
     pub(crate) sets: SetTable,

@@ -8,11 +8,13 @@ ghost use Rattle.rr_model.specs.Series.Soundness.{IsSound};
 ghost use Rattle.rr_model.specs.Series.Tree.{tree_of};
 ghost use Rattle.rr_iter.specs.Counts.{AreCounts, AreCountsOf, IsCountOf};
 ghost use Rattle.rr_iter.specs.Ends.{IsSoundRule};
-ghost use Rattle.rr_fold.specs.Folding.{AreDaysOf, HasNoDayBefore};
+ghost use Rattle.rr_fold.specs.Dated.{AreDaysIn};
+ghost use Rattle.rr_fold.specs.Folding.{AreDaysOf};
 ghost use Rattle.rr_fold.specs.Rules.{AreDaysChosen, AreDaysOfRule, AreEndless, HasRules, given_from, kept_from, members_of_rules};
 
 use crate::combination::combination_of;
-use crate::dates::{days_of_dates, led_by_free};
+use crate::dated::{Change, FEW_DATES, with_dates};
+use crate::dates::led_by_free;
 use crate::folded_days::{FoldedDays, days_of_lazy};
 use crate::jump::{days_counted, days_ended};
 use crate::years::{days_by_years, year_period};
@@ -23,11 +25,12 @@ use rr_model::{End, Fault, Kind, Rule, Series, day_part};
 use rr_walk::RuleLazy;
 use std::alloc::Global;
 
-// A series with dates, or with several rules some of which end, is folded rule by rule where it has more days than these.
+// A series with many dates, or with dates or several rules some of which end, is folded rule by rule if it has more days than these.
 const MANY_DAYS: i64 = 200_000;
 
-/// Whether the days of a series from one on and below another are folded rule by rule. It has a rule at least, and its start lies
-/// among them; and it has many days, or no dates and either one rule alone or endless rules alone. Any other series goes day by day.
+/// Whether the days of a series from `first` on and below `end`, both in days since 1970-01-01, are folded rule by rule. It has a rule
+/// at least, and its start lies among them; and it has many days, or one rule alone, or endless rules with few dates. Any other series
+/// goes day by day.
 pub fn goes_by_rules(series: &Series, first: i64, end: i64) -> bool
     requires sound { IsSound series.now }
     requires low { first_day_of_all ≤ℤ first }
@@ -38,13 +41,13 @@ pub fn goes_by_rules(series: &Series, first: i64, end: i64) -> bool
     pays(series, first, end) && has_rules(series, first, end)
 }
 
-// Whether it takes less time rule by rule: where many days are folded, or the series has rules alone.
+// Whether it takes less time rule by rule: if many days are folded, or the series is one rule, or has endless rules and few dates.
 fn pays(series: &Series, first: i64, end: i64) -> bool
     requires low { first_day_of_all ≤ℤ first }
     requires order { first <ℤ end }
     requires high { end ≤ℤ pos 40_000_000 }
 {
-    end - first > MANY_DAYS || has_rules_alone(series)
+    end - first > MANY_DAYS || is_one_rule(series) || has_endless_rules(series)
 }
 
 // Whether a series has a rule at least, and its start lies from one day on and below another.
@@ -62,15 +65,19 @@ fn has_rules(series: &Series, first: i64, end: i64) -> bool
     day < end
 }
 
-// Whether a series has no RDATE or EXDATE, and either one rule and no excluded rule, or endless ones alone.
-fn has_rules_alone(series: &Series) -> bool
-    ensures { result ≡ true → (series.now.plus ≡ []) × (series.now.minus ≡ []) }
-{
-    let rules = series.rules.as_slice();
-    let excluded = series.excluded.as_slice();
-    series.plus.is_empty()
+// Whether a series has one rule, and no excluded rule or date beside it.
+fn is_one_rule(series: &Series) -> bool {
+    series.rules.as_slice().len() == 1
+        && series.excluded.is_empty()
+        && series.plus.is_empty()
         && series.minus.is_empty()
-        && (rules.len() + excluded.len() == 1 || are_endless(rules) && are_endless(excluded))
+}
+
+// Whether no rule or excluded rule of a series has an end, and its dates are few.
+fn has_endless_rules(series: &Series) -> bool {
+    are_endless(series.rules.as_slice())
+        && are_endless(series.excluded.as_slice())
+        && series.plus.len().saturating_add(series.minus.len()) <= FEW_DATES
 }
 
 // Whether no rule has an end.
@@ -90,7 +97,7 @@ fn are_endless(rules: &[Rule]) -> bool
 /// without those of its excluded rules and of the dates taken out. Cycles that were counted to find the settled day are not counted
 /// again.
 ///
-/// `TooManyMoments` where the days of one rule, of some rules together, of dates or of the excluded rules have too many seconds.
+/// `TooManyMoments` if the days of one rule, of some rules together, of dates or of the excluded rules have too many seconds.
 /// The days of the series itself may have fewer: whether it is refused is told by walking it.
 pub fn days_by_rules(
     alloc: Global,
@@ -103,26 +110,20 @@ pub fn days_by_rules(
     requires rules { HasRules series.now first end }
     requires low { first_day_of_all ≤ℤ first }
     requires high { end ≤ℤ pos 40_000_000 }
-    requires early { HasNoDayBefore (tree_of series.now) first }
-    ensures folded { IfOk result (AreDaysOf (tree_of series.now) first end) }
+    ensures folded { IfOk result (AreDaysIn series.now.kind (tree_of series.now) first) }
     ensures whole { IfOk result (λ days. end ≡ first +ℤ pos (length days.numbers)) }
 {
     let given = series.series();
     let days = kept_days(alloc, given, counts, first, end)?;
-    if given.minus.is_empty() {
-        return Ok(days);
-    }
-    let out = match days_of_dates(alloc, given.kind, &given.minus, first, end) {
-        Ok(out) => out,
-        Err(fault) => {
-            drop(days);
-            return Err(fault);
-        }
-    };
-    let made = combination_of(alloc, Op::Minus, &days, &out);
-    drop(out);
-    drop(days);
-    made
+    with_dates(
+        alloc,
+        Change::TakeOut,
+        days,
+        given.kind,
+        &given.minus,
+        first,
+        end,
+    )
 }
 
 // The days of the rules and of the dates added from one on and below another, without those of the excluded rules.
@@ -138,7 +139,7 @@ fn kept_days(
     requires rules { HasRules series.now first end }
     requires low { first_day_of_all ≤ℤ first }
     requires high { end ≤ℤ pos 40_000_000 }
-    ensures folded { IfOk result (AreDaysOf (kept_from series.now first) first end) }
+    ensures folded { IfOk result (AreDaysIn series.now.kind (kept_from series.now first) first) }
     ensures whole { IfOk result (λ days. end ≡ first +ℤ pos (length days.numbers)) }
 {
     let days = given_days(alloc, series, counts, first, end)?;
@@ -181,26 +182,21 @@ fn given_days(
     requires rules { HasRules series.now first end }
     requires low { first_day_of_all ≤ℤ first }
     requires high { end ≤ℤ pos 40_000_000 }
-    ensures folded { IfOk result (AreDaysOf (given_from series.now first) first end) }
+    ensures folded { IfOk result (AreDaysIn series.now.kind (given_from series.now first) first) }
     ensures whole { IfOk result (λ days. end ≡ first +ℤ pos (length days.numbers)) }
 {
     let rules = series.rules.as_slice();
     let counted = counts.rules.as_slice();
     let days = days_of_rules(alloc, series.kind, series.start, rules, counted, first, end)?;
-    if series.plus.is_empty() {
-        return Ok(days);
-    }
-    let dates = match days_of_dates(alloc, series.kind, &series.plus, first, end) {
-        Ok(dates) => dates,
-        Err(fault) => {
-            drop(days);
-            return Err(fault);
-        }
-    };
-    let made = combination_of(alloc, Op::Union, &dates, &days);
-    drop(dates);
-    drop(days);
-    made
+    with_dates(
+        alloc,
+        Change::Add,
+        days,
+        series.kind,
+        &series.plus,
+        first,
+        end,
+    )
 }
 
 // The days of rules together, of each of which this was counted, from one on that is not after their start's and below another.

@@ -35,7 +35,7 @@ impl Walk {
         })
     }
 
-    // The days that were walked.
+    // The days that were walked; the numbers of the iterator's sets are let go.
     pub(crate) fn into_days(self) -> FoldedDays
         ensures { result ≡ self.days }
     {

@@ -28,7 +28,7 @@ const MAX_PERIOD: u64 = 1_000;
 
 /// The days of a period such that years of one key, whole periods apart, have the same days by a rule: 1 for a rule of whole
 /// days that leaves no unit out and whose set positions, if it has some, are counted within months or years. For a finer rule
-/// without set positions its units begin at the same second of a day again after a period. None for any other rule, and where
+/// without set positions its units begin at the same second of a day again after a period. None for any other rule, and if
 /// the period is above `MAX_PERIOD`.
 pub fn year_period(rule: &Rule) -> Option<usize>
     requires { 1 ≤ rule.now.interval }
@@ -84,8 +84,9 @@ fn is_finer(rule: &Rule) -> bool
     }
 }
 
-/// The days that a rule with such a period chooses, from its start's day on and below `end`. Of the years after the start's one
-/// is walked for each key and each place of its first day in a period, and the others are copied.
+/// The days that a rule with a period by `year_period` chooses, from its start's day on and below `end`, in days since 1970-01-01. Of
+/// the years after the start's one is walked for each key and each place of its first day in a period, and the others are copied.
+/// `TooManyMoments` if the distinct sets of these days have together more than `MAX_SECONDS` seconds.
 pub fn days_by_years(
     alloc: Global,
     rule: &Rule,
@@ -142,7 +143,7 @@ fn walk_rule(
     let first = day_part(kind, start);
     let mut lazy = RuleLazy::new(alloc, rule, kind, start)?;
     let walked = walk_by_years(alloc, rule, period, &mut lazy, walk, first, end);
-    // By a call, or else the proof follows the drop into each list that the iterator holds.
+    // By a call, since otherwise the proof follows the drop into each list that the iterator holds.
     drop(lazy);
     walked
 }
@@ -189,7 +190,7 @@ struct KeptYears {
 }
 
 impl KeptYears {
-    // No year yet.
+    // No year yet, of any key and place in a period of this many days.
     fn new(alloc: Global, period: usize) -> Result<KeptYears, NoMemory>
         requires { period ≤ 1_000 }
         ensures period { IfOk result (λ kept. kept.period ≡ period) }
@@ -211,7 +212,7 @@ impl KeptYears {
         usize::from(mask_key(rule, year)) + YEAR_KEYS * (index % self.period)
     }
 
-    // Goes on with the days of a year below another day: those of a year of its slot are copied, or else they are walked.
+    // Goes on with the days of a year below another day: those of a year of its slot are copied, and without one they are walked.
     fn go_on(
         &mut self,
         alloc: Global,

@@ -1,12 +1,14 @@
 -- A list of numbers that is kept in pages.
-use Rattle.std.proofs.Common.{◌≡◌, inl, inr, ℕ, zero, suc, ◌+◌, ◌*◌, ◌-◌, ◌/◌, ◌%◌, ◌<◌, ◌≤◌, min, List, [], ◌∷◌, ◌++◌, length, get_or, take, drop, replicate, refl, sym, ap, subst, ◌∙◌, append_assoc, append-nil, arith, length-append, length-drop}
-use Rattle.std.proofs.lemmas.List.{get_or-drop, get_or-take, length-take, length-take-le, drop-append-le, drop-drop, take-append-drop, take-append-le, take_all, get_or-append-add, ext_get_or, get_or-replicate, length-replicate, replicate-append-replicate}
+use Rattle.std.proofs.Common.{◌≡◌, inl, inr, ℕ, zero, suc, ◌+◌, ◌*◌, ◌-◌, ◌/◌, ◌%◌, ◌<◌, ◌≤◌, min, List, [], ◌∷◌, ◌++◌, length, get_or, take, drop, replicate, set, refl, sym, ap, subst, ◌∙◌, append_assoc, append-nil, arith, length-append, length-drop}
+use Rattle.std.proofs.lemmas.List.{get_or-drop, get_or-take, length-take, length-take-le, drop-append-le, drop-drop, take-append-drop, take-append-le, take_all, get_or-append-add, ext_get_or, get_or-replicate, get_or-set_other, length-replicate, length-set, replicate-append-replicate, set-append_left, set-append_right}
+use Rattle.std.proofs.lemmas.Grind.{get_or-set_at}
 use Rattle.std.proofs.Math.ListN.{get_or-append}
 use Rattle.std.proofs.Math.Seq.{drop-append_seam, drop-nil, get_or-append_seam, take-add, take-append-add, take-length, take-nil}
-use Rattle.std.proofs.lemmas.Bool.{cases_lt}
+use Rattle.std.proofs.lemmas.Bool.{cases_eq, cases_lt}
+use Rattle.std.specs.Prelude.{OnErr, Result, Ok, Err}
 use Rattle.rr_runs.specs.Pages.{ArePages, HasRoom, IsGrown, IsPageOf, IsPaged, IsPiece, IsZeroFrom, IsZeroPage, page_numbers, row_of_pages}
 
-length_page : (pool : List ℕ) (p : ℕ) → p + 63 ≤ length pool → length (page_numbers pool p) ≡ 63
+pub length_page : (pool : List ℕ) (p : ℕ) → p + 63 ≤ length pool → length (page_numbers pool p) ≡ 63
 length_page pool p h = simp (length-take, length-drop) (omega arith)
 
 page_at : (pool : List ℕ) (p r : ℕ) → r < 63 → get_or (page_numbers pool p) r 0 ≡ get_or pool (p + r) 0
@@ -563,3 +565,67 @@ pub resized : (old new : List ℕ) (n len count value : ℕ) → new ≡ take n 
 resized old new n len count value e el en =
     let added : n - len ≡ count = omega arith in
     e ∙ ap (λ (l : List ℕ). l ++ replicate (n - len) value) (take_all n old (omega arith)) ∙ ap (λ k. old ++ replicate k value) added
+
+-- ---- one number is another
+
+-- a number of one page is another, in a page of its own
+pub number_set : (pool pool' pages pages' : List ℕ) (i place page n : ℕ) → ArePages pool pages → IsGrown pool pool' → i < length pages → place < 63
+    → IsPageOf pool' (set (page_numbers pool (get_or pages i 0)) place n) page → pages' ≡ set pages i page
+    → row_of_pages pool' pages' ≡ set (row_of_pages pool pages) (i * 63 + place) n
+number_set pool pool' [] pages' i place page n stand grown l h is e = absurd (omega arith)
+number_set pool pool' (p ∷ pages) pages' zero place page n stand (more, grown) l h is e =
+    let rest : List ℕ = row_of_pages pool pages in
+    let many = length_page pool p (stand 0 (omega arith)) in
+    let kept : row_of_pages pool' pages ≡ rest = rw grown (paged_stays pool more pages (later_pages pool p pages stand)) in
+    let at : 0 * 63 + place ≡ place = omega arith in
+    ap (row_of_pages pool') e
+    ∙ ap (λ (l : List ℕ). l ++ row_of_pages pool' pages) is.same
+    ∙ ap (λ (l : List ℕ). set (page_numbers pool p) place n ++ l) kept
+    ∙ sym (set-append_left (page_numbers pool p) rest place n (omega (arith, many)))
+    ∙ ap (λ k. set (page_numbers pool p ++ rest) k n) (sym at)
+number_set pool pool' (p ∷ pages) pages' (suc i) place page n stand (more, grown) l h is e =
+    let rest : List ℕ = row_of_pages pool pages in
+    let many = length_page pool p (stand 0 (omega arith)) in
+    let kept : page_numbers pool' p ≡ page_numbers pool p = rw grown (page_stays pool more p (stand 0 (omega arith))) in
+    let at : (suc i * 63 + place) - 63 ≡ i * 63 + place = omega arith in
+    ap (row_of_pages pool') e
+    ∙ ap (λ (l : List ℕ). l ++ row_of_pages pool' (set pages i page)) kept
+    ∙ ap (λ (l : List ℕ). page_numbers pool p ++ l)
+    (number_set pool pool' pages (set pages i page) i place page n (later_pages pool p pages stand) (more, grown) (omega arith) h is refl)
+    ∙ ap (λ k. page_numbers pool p ++ set rest k n) (sym at)
+    ∙ sym (set-append_right (page_numbers pool p) rest 63 (suc i * 63 + place) n many (omega arith))
+
+-- the page of its own stands in the pool as the others do
+pub pages_set : (pool pool' pages pages' : List ℕ) (i page : ℕ) → ArePages pool pages → IsGrown pool pool' → page + 63 ≤ length pool'
+    → pages' ≡ set pages i page → ArePages pool' pages'
+pages_set pool pool' pages pages' i page stand grown within e k h =
+    let many : length pages' ≡ length pages = ap length e ∙ length-set pages i page in
+    let old = pages_stand pool pool' pages stand grown k (omega (arith, many)) in
+    elim (cases_eq k i) [
+      | inl same ↦
+          (let at : get_or pages' k 0 ≡ page = ap (λ (xs : List ℕ). get_or xs k 0) e ∙ get_or-set_at pages i k page 0 same (omega (arith, many)) in
+          omega (arith, at, within))
+      | inr other ↦
+          (let at : get_or pages' k 0 ≡ get_or pages k 0 = ap (λ (xs : List ℕ). get_or xs k 0) e ∙ get_or-set_other pages i k page 0 other in
+          omega (arith, at, old))
+    ]
+
+module _ (pool pages rest numbers : List ℕ) (view : numbers ≡ row_of_pages pool pages ++ rest) (is : IsPaged pool pages rest) (index n : ℕ) where
+  -- a number after the last page
+  pub set_in_rest : (paged : ℕ) → paged ≡ length pages * 63 → paged ≤ index → row_of_pages pool pages ++ set rest (index - paged) n ≡ set numbers index n
+  set_in_rest paged e l =
+      sym (ap (λ (xs : List ℕ). set xs index n) view
+      ∙ set-append_right (row_of_pages pool pages) rest paged index n (length_paged pool pages is.stand ∙ sym e) l)
+
+  -- a number of a page
+  pub set_in_row : (row : List ℕ) → index < length pages * 63 → row ≡ set (row_of_pages pool pages) (index / 63 * 63 + index % 63) n → row ++ rest ≡ set numbers index n
+  set_in_row row l e =
+      let at : index / 63 * 63 + index % 63 ≡ index = omega arith in
+      ap (λ (xs : List ℕ). xs ++ rest) (e ∙ ap (λ k. set (row_of_pages pool pages) k n) at)
+      ∙ sym (set-append_left (row_of_pages pool pages) rest index n (omega (arith, l, length_paged pool pages is.stand)))
+      ∙ sym (ap (λ (xs : List ℕ). set xs index n) view)
+
+-- what holds anyway holds after an error
+pub on_error : {X E P : Type 0} → (result : Result X E) → P → OnErr result P
+on_error (Ok x) p = tt
+on_error (Err e) p = p

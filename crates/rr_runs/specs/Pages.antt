@@ -31,7 +31,7 @@ pub record IsPageOf (pool numbers : List ℕ) (page : ℕ) : Type 0 where
   pub within : page + 63 ≤ length pool
   pub same : page_numbers pool page ≡ numbers
 
--- there is room for this number of numbers after those that follow the last page: for as many as a page has, or, where there is no
+-- there is room for this number of numbers after those that follow the last page: for as many as a page has, or, if there is no
 -- page yet, 200,025
 pub record HasRoom (pages rest : List ℕ) (count : ℕ) : Type 0 where
   pub short : length rest + count ≤ 200_025

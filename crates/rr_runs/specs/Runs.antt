@@ -46,12 +46,12 @@ pub record Reached : Type 0 where
 abbrev pub reach : Reached → NumberedDay → Reached
 reach r x = record { day = x.day; gap = nat_abs (x.day -ℤ r.day); number = x.number }
 
--- what is reached after these items: the last of them with its gap, or `r` where there is none
+-- what is reached after these items: the last of them with its gap, or `r` if there is none
 abbrev pub last_reached : Reached → List NumberedDay → Reached
 last_reached r [] = r
 last_reached r (x ∷ xs) = last_reached (reach r x) xs
 
--- 0 where both gap and number are the same, and else 1
+-- 0 if both gap and number are the same, and otherwise 1
 abbrev pub change : ℕ → ℕ → ℕ → ℕ → ℕ
 change gap number gap' number' = if (gap == gap') && (number == number') then 0 else 1
 

@@ -7,13 +7,13 @@ pub const PAGE_LENGTH: usize = 63;
 // How many numbers are compared at once: half a page, so that two blocks are a page, and a number is in both.
 pub(crate) const BLOCK: usize = 32;
 
-// How many numbers are compared at once where fewer than a block are left.
+// How many numbers are compared at once if fewer than a block are left.
 const SMALL_BLOCK: usize = 8;
 
 // How many numbers of one stretch are looked at for 0 in one call.
 const COUNTED: usize = 1_024;
 
-// How many of the first numbers are this one, as far as these are looked at.
+// How many of the first numbers are this one; at most `COUNTED` of them are looked at.
 #[inline(always)]
 pub(crate) fn leading_same(numbers: &[u32], number: u32) -> usize
     ensures few { result ≤ length numbers.now }
@@ -58,7 +58,7 @@ pub(crate) fn is_block_of<const N: usize>(numbers: &[u32], from: usize, number: 
     all
 }
 
-// The first index from one on, and before an end, that has another number than this one; the end where there is none.
+// The first index from one on, and before an end, that has another number than this one; the end if there is none.
 #[inline(always)]
 fn same_before(numbers: &[u32], number: u32, from: usize, end: usize) -> usize
     requires order { from ≤ end }

@@ -1,10 +1,10 @@
 // A list of numbers, kept as they are or in pages.
-ghost use Rattle.std.specs.Prelude.{◌≡◌, ◌<◌, ◌≤◌, ◌∷◌, ◌++◌, [], IfOk, OnErr, OnOk, length, get_or, take, drop, replicate, ◌+◌, ◌*◌};
+ghost use Rattle.std.specs.Prelude.{◌≡◌, ◌<◌, ◌≤◌, ◌∷◌, ◌++◌, [], IfOk, OnErr, OnOk, length, get_or, take, drop, replicate, set, ◌+◌, ◌*◌};
 ghost use Rattle.rr_runs.specs.Pages.{IsPiece, IsZeroFrom, PutsSome};
 
 use crate::blocks::{PAGE_LENGTH, leading_same};
 use crate::copies::{copy_to_start, first_numbers, put_again, put_same, rest_from};
-use crate::pool::{LOOKED_AT, rest_of_page, zero_pages};
+use crate::pool::{LOOKED_AT, rest_of_page, set_in_page, zero_pages};
 use crate::room::{OPEN, has_room, make_room, put_pages_of, room_left};
 use rr_model::NoMemory;
 use std::alloc::Global;
@@ -38,7 +38,7 @@ impl Model for Pages {
 }
 
 impl Pages {
-    /// No numbers; it takes no memory.
+    /// An empty list, kept as it is until it has 200,025 numbers; it takes no memory.
     pub fn new(alloc: Global) -> Self
         ensures { result ≡ [] }
     {
@@ -50,7 +50,7 @@ impl Pages {
         }
     }
 
-    /// How many numbers there are.
+    /// How many numbers the list has, in pages and after them.
     #[inline(always)]
     pub fn len(&self) -> usize
         ensures value { result ≡ length self.now }
@@ -59,7 +59,8 @@ impl Pages {
         self.pages.len() * PAGE_LENGTH + self.rest.len()
     }
 
-    /// Makes room for `count` more numbers, as far as these are kept as they are. It only saves time.
+    /// Makes room for `count` more numbers, as far as these are kept as they are; the list stays as it is, after `NoMemory` too. It only
+    /// saves time.
     pub fn reserve(&mut self, count: usize) -> Result<(), NoMemory>
         ensures { self.new ≡ self.old }
     {
@@ -70,7 +71,7 @@ impl Pages {
         Ok(())
     }
 
-    /// Puts a number at the end.
+    /// Puts a number at the end, which may make pages of the numbers before it. `NoMemory` also beyond 100,000,000 pages.
     #[inline(always)]
     pub fn push(&mut self, number: u32) -> Result<(), NoMemory>
         ensures ok { OnOk result (self.new ≡ self.old ++ number ∷ []) }
@@ -86,7 +87,7 @@ impl Pages {
         Ok(())
     }
 
-    /// Puts numbers at the end, one after another.
+    /// Puts numbers at the end, one after another. After `NoMemory` some of the first may be there.
     pub fn push_all(&mut self, numbers: &[u32]) -> Result<(), NoMemory>
         ensures { OnOk result (self.new ≡ self.old ++ numbers.now) }
     {
@@ -98,7 +99,8 @@ impl Pages {
         Ok(())
     }
 
-    /// Puts `count` equal numbers at the end. A whole page of them costs four bytes once there are pages.
+    /// Puts `count` equal numbers at the end. A whole page of them costs four bytes once there are pages. After `NoMemory` some of them
+    /// may be there.
     #[inline(always)]
     pub fn push_same(&mut self, number: u32, count: usize) -> Result<(), NoMemory>
         ensures { OnOk result (self.new ≡ self.old ++ replicate count number) }
@@ -110,7 +112,7 @@ impl Pages {
     }
 
     /// Puts the `count` numbers from an index on once more at the end. Once there are pages, a whole page costs four bytes
-    /// where the index is a multiple of 63 below the length.
+    /// if the index is a multiple of 63 below the length. After `NoMemory` some of them may be there.
     pub fn push_again(&mut self, index: usize, count: usize) -> Result<(), NoMemory>
         requires { index + count ≤ length self.old }
         ensures { OnOk result (self.new ≡ self.old ++ take count (drop index self.old)) }
@@ -124,7 +126,8 @@ impl Pages {
         Ok(())
     }
 
-    /// Puts the `count` numbers of another list from an index on at the end. A whole page of zeros costs four bytes.
+    /// Puts the `count` numbers of another list from an index on at the end. A whole page of zeros costs four bytes. After `NoMemory`
+    /// some of them may be there.
     pub fn push_from(&mut self, other: &Pages, index: usize, count: usize) -> Result<(), NoMemory>
         requires { index + count ≤ length other.now }
         ensures { OnOk result (self.new ≡ self.old ++ take count (drop index other.now)) }
@@ -135,6 +138,29 @@ impl Pages {
             let more = self.push_some_of(other, index + done, count - done)?;
             done += more;
         }
+        Ok(())
+    }
+
+    /// Puts a number in the place of the one at an index. Once there are pages, it is put into a copy of its page, and a page more
+    /// is kept if no known one has these numbers.
+    pub fn set(&mut self, index: usize, number: u32) -> Result<(), NoMemory>
+        requires { index < length self.old }
+        ensures ok { OnOk result (self.new ≡ set self.old index number) }
+        ensures err { OnErr result (self.new ≡ self.old) }
+    {
+        let paged = self.pages.len() * PAGE_LENGTH;
+        if index >= paged {
+            self.rest[index - paged] = number;
+            return Ok(());
+        }
+        set_in_page(
+            &mut self.pool,
+            &mut self.pages,
+            &mut self.remembered,
+            index / PAGE_LENGTH,
+            index % PAGE_LENGTH,
+            number,
+        )?;
         Ok(())
     }
 
@@ -166,7 +192,7 @@ impl Pages {
         Ok(())
     }
 
-    // Puts some of `most` equal numbers at the end, one at least: all of them where whole pages may follow the last page.
+    // Puts some of `most` equal numbers at the end, one at least: all of them if whole pages may follow the last page.
     fn push_some_same(&mut self, number: u32, most: usize) -> Result<usize, NoMemory>
         requires { 1 ≤ most }
         ensures { IfOk result (λ count. (1 ≤ count) × (count ≤ most)
@@ -196,7 +222,7 @@ impl Pages {
     }
 
     // Puts some of the `most` numbers from an index on once more at the end, one at least: as many as are kept as they are, or
-    // whole pages where both are aligned.
+    // whole pages if both are aligned.
     fn push_some_again(&mut self, index: usize, most: usize) -> Result<usize, NoMemory>
         requires some { 1 ≤ most }
         requires within { index + most ≤ length self.old }
@@ -226,7 +252,7 @@ impl Pages {
         Ok(put)
     }
 
-    // Puts some of the `most` numbers of another list from an index on at the end, one at least: the zeros that begin there where
+    // Puts some of the `most` numbers of another list from an index on at the end, one at least: the zeros that begin there if
     // they fill a page.
     fn push_some_of(&mut self, other: &Pages, index: usize, most: usize) -> Result<usize, NoMemory>
         requires some { 1 ≤ most }
@@ -256,7 +282,7 @@ impl Pages {
     }
 
     // Puts the pages that begin at an index once more at the end, as many as have at most `most` numbers, and tells how many; 0
-    // where no page begins there, or none may begin at the end.
+    // if no page begins there, or none may begin at the end.
     fn push_pages_again(&mut self, index: usize, most: usize) -> Result<usize, NoMemory>
         requires { index + most ≤ length self.old }
         ensures { IfOk result (λ pages. (pages * 63 ≤ most)
@@ -303,7 +329,7 @@ impl Pages {
         first_numbers(self.piece(index), most)
     }
 
-    /// The number at an index.
+    /// The number at an index, counted from 0.
     #[inline(always)]
     pub fn number_at(&self, index: usize) -> u32
         requires { index < length self.now }
@@ -312,7 +338,7 @@ impl Pages {
         self.piece(index)[0]
     }
 
-    /// The numbers from an index on, as far as they are kept in a row.
+    /// The numbers from an index on, as far as they are kept in a row: up to the end of its page, or of the list after the last page.
     #[inline(always)]
     pub fn piece(&self, index: usize) -> &[u32]
         requires { index < length self.now }
@@ -326,7 +352,7 @@ impl Pages {
         rest_of_page(&self.pool, self.pages[page] as usize, index % PAGE_LENGTH)
     }
 
-    /// How many numbers from an index on are surely 0: 0 where the number itself is not. All up to the first other number are
+    /// How many numbers from an index on are surely 0: 0 if the number itself is not. All up to the first other number are
     /// counted, but for what follows after some 1,000.
     #[inline(always)]
     pub fn zeros_from(&self, index: usize) -> usize

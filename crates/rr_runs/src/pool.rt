@@ -1,9 +1,9 @@
 // The pool of distinct pages.
-ghost use Rattle.std.specs.Prelude.{◌≡◌, ◌<◌, ◌≤◌, ℕ, IfOk, IfSome, IsTrue, length, get_or, take, drop, replicate, ◌+◌, ◌-◌};
-ghost use Rattle.rr_runs.specs.Pages.{ArePages, IsGrown, IsPageOf, IsZeroPage};
+ghost use Rattle.std.specs.Prelude.{◌≡◌, ◌<◌, ◌≤◌, ℕ, IfOk, IfSome, IsTrue, OnErr, OnOk, length, get_or, take, drop, replicate, set, ◌+◌, ◌*◌, ◌-◌};
+ghost use Rattle.rr_runs.specs.Pages.{ArePages, IsGrown, IsPageOf, IsZeroPage, page_numbers, row_of_pages};
 
 use crate::blocks::{BLOCK, PAGE_LENGTH, are_equal, is_block_of, leading_same};
-use crate::copies::rest_from;
+use crate::copies::{copy_to_start, rest_from};
 use rr_model::NoMemory;
 
 // How many pages are looked at for 0 in one call.
@@ -49,7 +49,7 @@ pub(crate) fn rest_of_page(pool: &[u32], page: usize, from: usize) -> &[u32]
     &pool[page + from..page + PAGE_LENGTH]
 }
 
-// A page of the pool that has these numbers: the one that was put last, where that was put twice and has them.
+// A page of the pool that has these numbers: the one that was put last, if that was put twice and has them.
 pub(crate) fn page_for(
     pool: &mut Vec<u32>,
     pages: &[u32],
@@ -66,7 +66,7 @@ pub(crate) fn page_for(
     }
 }
 
-// The page that was put last, where it was put twice in a row and has these numbers.
+// The page that was put last, if it was put twice in a row and has these numbers.
 fn last_page(pool: &[u32], pages: &[u32], numbers: &[u32]) -> Option<u32>
     requires { length numbers.now ≡ 63 }
     ensures { IfSome result (IsPageOf pool.now numbers.now) }
@@ -79,7 +79,7 @@ fn last_page(pool: &[u32], pages: &[u32], numbers: &[u32]) -> Option<u32>
     }
 }
 
-// A page of the pool that has these numbers; where none is known a new one is put at the end of the pool.
+// A page of the pool that has these numbers; if none is known a new one is put at the end of the pool.
 fn page_of(pool: &mut Vec<u32>, remembered: &mut Vec<u32>, numbers: &[u32]) -> Result<u32, NoMemory>
     requires { length numbers.now ≡ 63 }
     ensures grown { IsGrown pool.old.items pool.new.items }
@@ -96,7 +96,49 @@ fn page_of(pool: &mut Vec<u32>, remembered: &mut Vec<u32>, numbers: &[u32]) -> R
     Ok(page)
 }
 
-// The same for a page of one number.
+// Puts a number at a place of one page of a list: in a copy of the page, since other pages of the list may be the same one.
+pub(crate) fn set_in_page(
+    pool: &mut Vec<u32>,
+    pages: &mut Vec<u32>,
+    remembered: &mut Vec<u32>,
+    page: usize,
+    place: usize,
+    number: u32,
+) -> Result<(), NoMemory>
+    requires stand { ArePages pool.old.items pages.old.items }
+    requires page { page < length pages.old.items }
+    requires place { place < 63 }
+    ensures grown { IsGrown pool.old.items pool.new.items }
+    ensures stand { ArePages pool.new.items pages.new.items }
+    ensures many { length pages.new.items ≡ length pages.old.items }
+    ensures value { OnOk result (row_of_pages pool.new.items pages.new.items
+        ≡ set (row_of_pages pool.old.items pages.old.items) (page * 63 + place) number) }
+    ensures err { OnErr result (pages.new.items ≡ pages.old.items) }
+{
+    let mut block = [0; PAGE_LENGTH];
+    copy_with(
+        &mut block,
+        rest_of_page(pool, pages[page] as usize, 0),
+        place,
+        number,
+    );
+    let new = page_of(pool, remembered, &block)?;
+    pages[page] = new;
+    Ok(())
+}
+
+// Copies a page, with this number at a place.
+fn copy_with(block: &mut [u32], page: &[u32], place: usize, number: u32)
+    requires room { length block.old ≡ 63 }
+    requires page { length page.now ≡ 63 }
+    requires place { place < 63 }
+    ensures { block.new ≡ set page.now place number }
+{
+    copy_to_start(block, page);
+    block[place] = number;
+}
+
+// A page of the pool that has this number alone; if none is known a new one is put at the end of the pool.
 pub(crate) fn page_of_same(
     pool: &mut Vec<u32>,
     remembered: &mut Vec<u32>,

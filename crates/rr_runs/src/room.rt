@@ -1,4 +1,4 @@
-// Room for numbers after the last page: where there is none, these become pages.
+// Room for numbers after the last page: if there is none, these become pages.
 ghost use Rattle.std.specs.Prelude.{◌≡◌, ◌≤◌, ◌++◌, [], IsTrue, OnErr, OnOk, length, replicate, ◌+◌, ◌*◌, ◌/◌, ◌%◌};
 ghost use Rattle.rr_runs.specs.Pages.{ArePages, HasRoom, IsGrown, IsPaged, kept_list, row_of_pages};
 
@@ -113,7 +113,7 @@ fn close_page(
     Ok(())
 }
 
-// Takes all numbers away, and their room where it is more than a page needs.
+// Takes all numbers away, and their room if it is more than a page needs.
 fn let_go(rest: &mut Vec<u32>)
     ensures { rest.new.items ≡ [] }
 {

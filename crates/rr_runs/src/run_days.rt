@@ -22,12 +22,12 @@ struct RunCount {
 /// Occupied days with the numbers of their time sets, days rising.
 ///
 /// Contracts see it as the list of the days with their numbers. It takes four bytes for each day from the first to the last, and
-/// less where these are more than 200,025 and much repeats.
+/// less if these are more than 200,025 and much repeats. Days are counted from 1970-01-01.
 #[derive(Drop)]
 pub struct RunDays {
     // The day of the first number of the row that counts.
     first: i64,
-    // A number for each day: 0 for a day without one, and else one more than its number.
+    // A number for each day: 0 for a day without one, and otherwise one more than its number.
     row: Pages,
     // How many numbers of the row come before those of the days.
     skipped: usize,
@@ -58,8 +58,8 @@ impl RunDays {
         }
     }
 
-    /// The days of a row of numbers from a day on: 0 for a day without a number, and else one more than its number.
-    /// It takes no memory.
+    /// The days of a row of numbers from a day on: 0 for a day without a number, and otherwise one more than its
+    /// number. It takes no memory.
     pub fn of_row(first: i64, row: Pages) -> Self
         requires far { IsDayWithin 0 first }
         ensures { result ≡ days_of first row }
@@ -67,7 +67,7 @@ impl RunDays {
         RunDays::of_rest(first, row, 0)
     }
 
-    /// The days of a row of numbers from a day on, as `of_row` has them, where the first `skipped` numbers of the row are passed
+    /// The days of a row of numbers from a day on, as `of_row` has them, but the first `skipped` numbers of the row are passed
     /// over: the number after them is that of the day. It takes no memory.
     pub fn of_rest(first: i64, row: Pages, skipped: usize) -> Self
         requires far { IsDayWithin 0 first }
@@ -81,7 +81,7 @@ impl RunDays {
         }
     }
 
-    /// Puts a day with its number at the end.
+    /// Puts a day with its number at the end. `NoMemory` also for the number 4,294,967,295, and for a day before the first one.
     pub fn put(&mut self, day: i64, number: u32) -> Result<(), NoMemory>
         requires after { All (λ x. x.day <ℤ day) self.old }
         requires far { IsDayWithin 0 day }
@@ -98,7 +98,7 @@ impl RunDays {
         Ok(())
     }
 
-    /// The number on a day; None exactly where no item has the day. It takes no memory.
+    /// The number on a day; None exactly if no item has the day. It takes no memory.
     pub fn number_on(&self, day: i64) -> Option<u32>
         requires far { IsDayWithin 0 day }
         ensures { result ≡ number_in self.now day }
@@ -109,15 +109,15 @@ impl RunDays {
         }
     }
 
-    /// How many longest stretches of equal neighbouring pairs of gap and number there are, where the first gap is 0.
+    /// How many longest stretches of equal neighbouring pairs of gap and number there are, if the first gap is taken as 0.
     pub fn runs(&self) -> usize
         ensures { result ≡ run_count self.now }
     {
         count_runs(self.first, &self.row, self.skipped)
     }
 
-    /// For a day and days after it, as far as they are kept in a row: 0 for a day without a number, and else one more than
-    /// its number. None only where no item has the day.
+    /// For a day and days after it, as far as they are kept in a row: 0 for a day without a number, and otherwise
+    /// one more than its number. No number at all only if no item has the day.
     pub fn row_from(&self, day: i64) -> &[u32]
         requires far { IsDayWithin 0 day }
         ensures row { IsRowOf self.now day result.now }
@@ -134,7 +134,7 @@ impl RunDays {
         self.row.piece(index)
     }
 
-    /// How many days from a day on surely have no number: 0 where the day has one.
+    /// How many days from a day on surely have no number: 0 if the day has one.
     pub fn free_days(&self, day: i64) -> u64
         requires far { IsDayWithin 0 day }
         ensures { (k : ℕ) → k < result → number_in self.now (day +ℤ pos k) ≡ None }
@@ -240,7 +240,7 @@ fn count_day(count: RunCount, day: i64, number: u32) -> RunCount
     }
 }
 
-// 0 where a run goes on, and else 1.
+// 0 if a run goes on, and otherwise 1.
 fn change(gap: u64, number: u32, count: RunCount) -> usize
     ensures value { result ≡ change gap number count.gap count.number }
     ensures few { result ≤ 1 }

@@ -1,11 +1,11 @@
-use Rattle.std.proofs.Common.{◌≡◌, ◌≤◌, [], sym, subst}
+use Rattle.std.proofs.Common.{◌≤◌, [], sym, subst}
 use Rattle.std.proofs.lemmas.Option.{get_or_from_slice_get}
 use Rattle.std.proofs.lemmas.Result.{IfOk-weaker}
 use Rattle.rr_model.specs.Sets.Sizes.{total_size}
 use Rattle.rr_model.specs.declared.limits.TheConstants.{MAX_SECONDS}
 use Rattle.rr_shapes.specs.Tables.{IsUnknown}
 use Rattle.rr_shapes.specs.declared.pair_numbers.Pair.{Pair}
-use Rattle.rr_days.specs.MadeSets.{AreKnown, IsMadeSet, IsNumberOf, KeepsKnown}
+use Rattle.rr_days.specs.MadeSets.{AreKnown, IsMadeSet, KeepsKnown}
 use Rattle.rr_days.specs.declared.combined_sets.CombinedSets.{CombinedSets}
 use Rattle.rr_days.proofs.MadeSetLemmas.{both_ok, made_number}
 use Rattle.rr_days.proofs.PlacedLemmas.{placed_grown}

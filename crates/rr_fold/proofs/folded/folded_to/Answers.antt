@@ -13,7 +13,7 @@ use Rattle.rr_model.specs.declared.rule.Series.{Series}
 use Rattle.rr_iter.proofs.SeriesTreeLemmas.{tree_stands_for_series}
 use Rattle.rr_iter.proofs.SeriesRepeatLemmas.{series_repeats}
 use Rattle.rr_days.proofs.BackLemmas.{back, days_back, sum_back}
-use Rattle.rr_fold.proofs.DistinctLemmas.{not_too_many}
+use Rattle.rr_fold.proofs.DistinctLemmas.{numbered_not_too_many}
 use Rattle.rr_fold.proofs.FoldLemmas.{refused_so}
 use Rattle.rr_fold.proofs.StandsForLemmas.{sketch_stands_for}
 use Rattle.rr_fold.proofs.WholeFoldLemmas.{cycle_some, settled_low, whole_fold}
@@ -31,6 +31,7 @@ record Days (c : After-first_day-first) : Type 0 where
   period : c.unwrap-period.result ≡ series_cycle c.args.series.now
   short : c.unwrap-period.result ≤ MAX_CYCLE_DAYS
   low : first_day_of_all ≤ℤ c.args.settled
+  early : HasNoDayBefore (tree_of c.args.series.now) c.first_day-first.result
   order : c.first_day-first.result ≤ℤ day_part c.args.series.now.kind c.args.series.now.start
   first : to_z w64 (of_z w64 c.first_day-first.result) ≡ c.first_day-first.result
   settled : to_z w64 (of_z w64 c.args.settled) ≡ c.args.settled
@@ -48,6 +49,7 @@ days_are c =
       period = p.0;
       short = p.1;
       low = low;
+      early = subst (λ z. HasNoDayBefore (tree_of z) c.first_day-first.result) c.series-given.ensures.value c.first_day-first.ensures.early;
       order = order;
       first = back c.first_day-first.result (omega (arith, ints, c.first_day-first.ensures.low))
           (omega (arith, ints, order, c.requires.settled.past.start, c.requires.high));
@@ -77,14 +79,14 @@ folded_days-requires-clause-high c =
 pub folded_days-requires-clause-early : goal.folded_days-requires-clause-early
 folded_days-requires-clause-early c =
     let d = days_are (goal.at.folded_days-requires-clause-early c).After-first_day-first in
-    rw d.first (subst (λ z. HasNoDayBefore (tree_of z) c.first_day-first.result) c.series-given.ensures.value c.first_day-first.ensures.early)
+    rw d.first d.early
 
 pub sequence-requires-clause-whole : goal.sequence-requires-clause-whole
 sequence-requires-clause-whole c =
     let s = c.args.series.now in
     let d = days_are (goal.at.sequence-requires-clause-whole c).After-first_day-first in
     let end : ℤ = c.args.settled +ℤ pos c.unwrap-period.result in
-    let folded = rw (d.first, d.end) at c.in-Ok.ensures.folded in
+    let folded = rw d.first at c.in-Ok.ensures.folded in
     let whole : end ≡ c.first_day-first.result +ℤ pos (length c.in-Ok.days.numbers) = rw (d.first, d.end) at c.in-Ok.ensures.whole in
     let some : 1 ≤ c.unwrap-period.result = rw d.period (cycle_some s d.sound) in
     let w = whole_fold s c.in-Ok.days.shapes c.in-Ok.days.numbers c.first_day-first.result c.args.settled end c.unwrap-period.result d.sound
@@ -101,13 +103,13 @@ returns-in_ok-sequence-in-Ok-clause-stands c =
     let s = c.args.series.now in
     let d = days_are (goal.at.returns-in_ok-sequence-in-Ok-clause-stands c).After-first_day-first in
     let end : ℤ = c.args.settled +ℤ pos c.unwrap-period.result in
-    let folded = rw (d.first, d.end) at c.in-Ok.ensures.folded in
+    let folded = rw d.first at c.in-Ok.ensures.folded in
     let whole : end ≡ c.first_day-first.result +ℤ pos (length c.in-Ok.days.numbers) = rw (d.first, d.end) at c.in-Ok.ensures.whole in
     let days : ℕ = nat_abs (c.args.settled -ℤ c.first_day-first.result) in
     let at : c.args.settled ≡ c.first_day-first.result +ℤ pos days = omega (arith, ints, d.order, c.requires.settled.past.start) in
     let full : length c.in-Ok.days.numbers ≡ days + series_cycle s = omega (arith, ints, whole, at, d.period) in
     let fact = sketch_stands_for tree_stands_for_series series_repeats s c.in-Ok.days.shapes c.in-Ok.days.numbers c.first_day-first.result
-    c.args.settled days d.sound c.requires.settled.past (cycle_some s d.sound) at full folded.numbered folded.early in
+    c.args.settled days d.sound c.requires.settled.past (cycle_some s d.sound) at full folded.numbered d.early in
     let same = c.in_ok-sequence-in-Ok.ensures
     ∙ (λ i. sketch_of (c.series-given.ensures.value i).kind c.in-Ok.days.shapes c.in-Ok.days.numbers (d.first i) (d.settled i) (d.period i)) in
     subst (λ x. StandsFor x (Occurs s)) (sym same) fact
@@ -116,8 +118,11 @@ pub returns-in_ok-sequence-in-Ok-clause-refused : goal.returns-in_ok-sequence-in
 returns-in_ok-sequence-in-Ok-clause-refused c =
     let s = c.args.series.now in
     let d = days_are (goal.at.returns-in_ok-sequence-in-Ok-clause-refused c).After-first_day-first in
-    λ many. not_too_many (tree_of s) c.first_day-first.result (c.args.settled +ℤ pos c.unwrap-period.result) c.in-Ok.days.shapes c.in-Ok.days.numbers
-    (rw (d.first, d.end) at c.in-Ok.ensures.folded) (subst (λ n. HasTooManyMoments (tree_of s) (c.args.settled +ℤ pos n)) (sym d.period) many)
+    let end : ℤ = c.args.settled +ℤ pos c.unwrap-period.result in
+    let folded = rw d.first at c.in-Ok.ensures.folded in
+    let whole : end ≡ c.first_day-first.result +ℤ pos (length c.in-Ok.days.numbers) = rw (d.first, d.end) at c.in-Ok.ensures.whole in
+    λ many. numbered_not_too_many (tree_of s) c.first_day-first.result end c.in-Ok.days.shapes c.in-Ok.days.numbers folded.few d.early folded.numbered
+    (λ day second a b. absurd (omega (arith, ints, whole, a, b))) (subst (λ n. HasTooManyMoments (tree_of s) (c.args.settled +ℤ pos n)) (sym d.period) many)
 
 pub returns-in-Err-clause-refused : goal.returns-in-Err-clause-refused
 returns-in-Err-clause-refused c =

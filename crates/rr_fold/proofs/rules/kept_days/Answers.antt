@@ -1,16 +1,18 @@
-use Rattle.std.proofs.Common.{◌≡◌, length, pos, ◌+ℤ◌, refl, sym, ◌∙◌, arith, to_z-of_z}
+use Rattle.std.proofs.Common.{◌≡◌, length, pos, ◌+ℤ◌, sym, ◌∙◌, arith, to_z-of_z}
 use Rattle.std.proofs.lemmas.Int.{ints}
 use Rattle.rr_iter.proofs.SettledLemmas.{excluded_are_sound}
 use Rattle.rr_model.proofs.BackLemmas.{in_years_back}
+use Rattle.rr_model.specs.Sets.Tree.{stands_at}
 use Rattle.rr_fold.specs.Combined.{AreCombined}
-use Rattle.rr_fold.specs.Folding.{IsFoldedTo}
+use Rattle.rr_fold.specs.Dated.{AreDaysIn}
 use Rattle.rr_fold.specs.Rules.{given_from, kept_from, members_of_rules}
 use Rattle.rr_days.specs.declared.op.Op.TheVariants.{Minus}
 use Rattle.rr_fold.specs.declared.folded_days.FoldedDays.{FoldedDays}
 use Rattle.rr_fold.proofs.ByRulesLemmas.{no_excluded}
-use Rattle.rr_fold.proofs.CombinedFoldLemmas.{combined_folded, numbers_within}
+use Rattle.rr_fold.proofs.CombinedFoldLemmas.{numbers_within}
+use Rattle.rr_fold.proofs.DatedLemmas.{combined_numbered, folded_numbered, numbered_same, numbers_within_sets}
+use Rattle.rr_fold.proofs.KindLemmas.{tree_of_kind}
 use Rattle.rr_fold.proofs.RulesFoldLemmas.{if_ok_map, none_listed, some_listed}
-use Rattle.rr_fold.proofs.SameTreeLemmas.{folded_same}
 use Rattle.rr_fold.proofs.rules.kept_days.Goals as goal
 
 pub returns-then-is_empty-clause-folded : goal.returns-then-is_empty-clause-folded
@@ -18,8 +20,9 @@ returns-then-is_empty-clause-folded c =
     let s = c.args.series.now in
     let days = c.in_ok-days.days in
     let none = none_listed s.excluded (sym c.is_empty.ensures ∙ c.if-is_empty.true) in
-    folded_same (given_from s c.args.first) (kept_from s c.args.first) (no_excluded s c.args.first none) c.args.first c.args.end days.shapes days.numbers
-    (rw (to_z-of_z c.ranges.first, to_z-of_z c.ranges.end) at c.in_ok-days.ensures.folded)
+    numbered_same s.kind (stands_at (given_from s c.args.first)) c.args.first days.shapes days.numbers
+    (rw (to_z-of_z c.ranges.first) at c.in_ok-days.ensures.folded) (stands_at (kept_from s c.args.first))
+    (λ k x l. no_excluded s c.args.first none (c.args.first +ℤ pos k) x)
 
 pub days_of_rules-requires-clause-some : goal.days_of_rules-requires-clause-some
 days_of_rules-requires-clause-some c =
@@ -42,7 +45,7 @@ pub combination_of-made-requires-clause-empty : goal.combination_of-made-require
 combination_of-made-requires-clause-empty c = (c.in_ok-days.ensures.folded.empty, c.in-Ok.ensures.folded.empty)
 
 pub combination_of-made-requires-clause-ones : goal.combination_of-made-requires-clause-ones
-combination_of-made-requires-clause-ones c = numbers_within _ _ _ c.in_ok-days.days.shapes c.in_ok-days.days.numbers c.in_ok-days.ensures.folded
+combination_of-made-requires-clause-ones c = numbers_within_sets _ _ _ c.in_ok-days.days.shapes c.in_ok-days.days.numbers c.in_ok-days.ensures.folded
 
 pub combination_of-made-requires-clause-others : goal.combination_of-made-requires-clause-others
 combination_of-made-requires-clause-others c = numbers_within _ _ _ c.in-Ok.out.shapes c.in-Ok.out.numbers c.in-Ok.ensures.folded
@@ -53,14 +56,18 @@ returns-clause-folded c =
     let start = in_years_back s.kind s.start c.requires.sound.valid.start in
     let f = to_z-of_z c.ranges.first in
     let e = to_z-of_z c.ranges.end in
+    let first = c.args.first in
     let days = c.in_ok-days.days in
     let out = c.in-Ok.out in
+    let given = stands_at (given_from s first) in
+    let excluded = members_of_rules s.kind s.start s.excluded in
+    let of_excluded = folded_numbered s.kind excluded first c.args.end out.shapes out.numbers (tree_of_kind s c.requires.sound).2.1
+    (rw (start, f, e, c.as_slice-excluded.ensures) at c.in-Ok.ensures.folded) in
+    let long : length days.numbers ≡ length out.numbers = omega (arith, ints, c.in_ok-days.ensures.whole, c.in-Ok.ensures.whole) in
     if_ok_map (λ (made : FoldedDays). AreCombined Minus days.shapes days.numbers out.shapes out.numbers made.shapes made.numbers)
-    (λ made. IsFoldedTo (kept_from s c.args.first) c.args.first c.args.end made.shapes made.numbers)
-    (λ made h. combined_folded Minus (kept_from s c.args.first) (given_from s c.args.first) (members_of_rules s.kind s.start s.excluded)
-    c.args.first c.args.end days.shapes days.numbers out.shapes out.numbers made.shapes made.numbers
-    (rw (f, e) at c.in_ok-days.ensures.folded) (rw (start, f, e, c.as_slice-excluded.ensures) at c.in-Ok.ensures.folded)
-    (rw (f, e) at c.in_ok-days.ensures.whole) (rw (f, e) at c.in-Ok.ensures.whole) (λ d x. refl) h) c.combination_of-made.result c.combination_of-made.ensures
+    (λ made. AreDaysIn s.kind (kept_from s first) first made)
+    (λ made h. combined_numbered Minus s.kind given (stands_at excluded) first days.shapes days.numbers out.shapes out.numbers made.shapes made.numbers
+    (rw f at c.in_ok-days.ensures.folded) of_excluded long h) c.combination_of-made.result c.combination_of-made.ensures
 
 pub returns-clause-whole : goal.returns-clause-whole
 returns-clause-whole c =
