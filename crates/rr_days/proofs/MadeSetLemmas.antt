@@ -41,17 +41,9 @@ module _ (old new : List (List ℕ)) (more : Extends old new) where
   known_kept : (op : Op) (one other : List (List ℕ)) (known : List (Pair × ℕ)) → AreKnown op one other old known → AreKnown op one other new known
   known_kept op one other known are k d l = let u = are k d l in (u.0, number_kept op _ _ _ u.1)
 
--- where a pair was not known, all that was known of others is all that was known
+-- if a pair was not known, all that was known of others is all that was known
 pub new_kept : (old new : List (Pair × ℕ)) (pair : Pair) → IsUnknown old pair → KeepsOthers old new pair → KeepsAll old new
 new_kept old new pair unknown kept known was = kept known was (λ same. unknown known.1 (subst (λ p. Contains old (p, known.1)) same was))
-
--- what a list holds, of entries that were known and a new one, is known with that one
-pub recent_known : {X : Type 0} (all all' recent recent' : List X) (e : X) → All (Contains all) recent → ((k : X) → Contains all k → Contains all' k)
-    → Contains all' e → All (λ k. Contains recent k ⊎ (e ≡ k)) recent' → All (Contains all') recent'
-recent_known {X} all all' recent recent' e known kept there only = All-weaker (λ (k : X). Contains recent k ⊎ (e ≡ k)) (Contains all') (λ k is. elim is [
-  | inl was ↦ kept k (All-contains (Contains all) recent k known was)
-  | inr new ↦ subst (Contains all') new there
-]) recent' only
 
 known_put : (op : Op) (one other sets : List (List ℕ)) (known new : List (Pair × ℕ)) (pair : Pair) (number : ℕ) → AreKnown op one other sets known
     → number ≤ 4_294_967_295 → IsNumberOf op (get_or one pair.a []) (get_or other pair.b []) sets number
@@ -99,7 +91,7 @@ both_ok (Err e) P Q R p q f = tt
 
 -- ---- one set too many
 
--- a set is refused where it would be one too many
+-- a set is refused if it would be one too many
 pub refused_one : (X : Type 0) (fault : Fault) (op : Op) (xs ys times : List ℕ) (sets sets' : List (List ℕ))
     → RefusedExactlyWhere {X = ℕ} (IsTooMany times sets) TooManyMoments (Err fault) → IsMadeOf op xs ys times → IsNumbering sets' → sets' ≡ sets
     → RefusedOnlyWhere {X = X} (IsOneTooMany op xs ys sets) (Err fault)

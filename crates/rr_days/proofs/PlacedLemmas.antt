@@ -50,6 +50,6 @@ placed_grown times old new number placed = record {
   ];
 }
 
--- where no set comes each keeps its number
+-- if no set comes each keeps its number
 pub not_grown : (sets : List (List ℕ)) (number : ℕ) → IsGrown sets sets number
 not_grown sets number = record { kept = λ k times at. at; added = λ k l. inl l }

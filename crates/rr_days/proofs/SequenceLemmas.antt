@@ -52,7 +52,7 @@ module _ (P : DayShape → Type 0) where
 
 -- ---- the sketch
 
--- a set of the list, or nothing where the list has no such number
+-- a set of the list, or nothing if the list has no such number
 set_of_place : (kind : Kind) (sets : List (List ℕ)) → All (λ t. t ≢ [] → IsTimeSet kind t) sets → (n : ℕ) → get_or sets n [] ≢ []
     → IsTimeSet kind (get_or sets n [])
 set_of_place kind sets all n e = elim (cases_lt n (length sets)) [

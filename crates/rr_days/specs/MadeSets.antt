@@ -41,7 +41,7 @@ pub record IsMadeSet (op : Op) (xs ys : List ℕ) (old new : List (List ℕ)) (n
   pub made : IsMadeOf op xs ys times
   pub placed : IsPlaced times old new number
 
--- where a pair names these two sets in two lists, and all that was known is true of these lists, so is what is known now
+-- if a pair names these two sets in two lists, and all that was known is true of these lists, so is what is known now
 abbrev pub KeepsKnown : Op → Pair → List ℕ → List ℕ → CombinedSets → CombinedSets → Type 0
 KeepsKnown op pair xs ys old new =
     (one other : List (List ℕ)) → get_or one pair.a [] ≡ xs → get_or other pair.b [] ≡ ys → AreKnown op one other old.shapes old.known
@@ -54,7 +54,7 @@ pub record IsOneTooMany (op : Op) (xs ys : List ℕ) (sets : List (List ℕ)) : 
   pub many : IsTooMany times sets
   pub numbering : IsNumbering sets
 
--- too many moments are refused only where this holds
+-- too many moments are refused only if this holds
 abbrev pub RefusedOnlyWhere : {X : Type 0} → Type 0 → Result X Fault → Type 0
 RefusedOnlyWhere P (Ok x) = ⊤
 RefusedOnlyWhere P (Err (Refused refusal)) = (refusal ≡ TooManyMoments) × P

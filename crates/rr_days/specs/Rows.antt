@@ -40,7 +40,7 @@ pub AreRising-prop : (low : ℤ) (days : List NumberedDay) → IsProp (AreRising
 AreRising-prop low [] = hlevel props
 AreRising-prop low (x ∷ xs) = hlevel (props, AreRising-prop (x.day +ℤ pos 1) xs)
 
--- the row has the numbers of the sets of the day and the days after it; where it has none the day has no seconds
+-- the row has the numbers of the sets of the day and the days after it; if it has none the day has no seconds
 pub record IsRowOn (sets : List (List ℕ)) (s : Sketch) (day : ℤ) (row : List ℕ) : Type 0 where
   pub none : row ≡ [] → times_on s day ≡ []
   pub of_days : (k : ℕ) → k < length row → slice_get sets (get_or row k 0) ≡ Some (times_on s (day +ℤ pos k))

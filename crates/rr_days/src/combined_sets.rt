@@ -7,10 +7,9 @@ ghost use Rattle.rr_shapes.specs.Numbering.{IsNumbering};
 ghost use Rattle.rr_shapes.specs.Tables.{IsUnknown, KeepsAll};
 ghost use Rattle.rr_days.specs.MadeSets.{AreSetNumbers, IsLeftOnErr, IsMadeOf, IsMadeSet, IsOneTooMany, KeepsKnown, RefusedOnlyWhere};
 
-use crate::known_pairs::KnownPairs;
 use crate::op::Op;
 use rr_model::{Fault, NoMemory};
-use rr_shapes::{FoldedSetId, Pair, Shapes};
+use rr_shapes::{FoldedSetId, Pair, PairNumbers, Shapes};
 use rr_times::TimeSet;
 use std::alloc::Global;
 
@@ -18,7 +17,7 @@ use std::alloc::Global;
 #[derive(Drop)]
 pub struct CombinedSets {
     /// Which set is made of which two.
-    pub known: KnownPairs,
+    pub known: PairNumbers,
     /// The sets, the empty one first.
     pub shapes: Shapes,
 }
@@ -47,19 +46,19 @@ fn made_of(alloc: Global, op: Op, a: &[u32], b: &[u32]) -> Result<TimeSet, NoMem
 }
 
 impl CombinedSets {
-    /// The empty set alone.
+    /// The empty set alone, which has number 0; no pair is known yet.
     pub fn new(alloc: Global) -> Result<CombinedSets, NoMemory>
         ensures known { IfOk result (λ s. s.known ≡ []) }
         ensures shapes { IfOk result (λ s. s.shapes ≡ [] ∷ []) }
     {
         let shapes = Shapes::with_empty_set(alloc)?;
         Ok(CombinedSets {
-            known: KnownPairs::new(alloc),
+            known: PairNumbers::new(alloc),
             shapes,
         })
     }
 
-    /// The number of the set that is made of a pair, which is found wherever one is known.
+    /// The number of the set that is made of a pair; None exactly if none is known.
     pub fn known_number(&mut self, pair: Pair) -> Option<FoldedSetId>
         requires numbers { AreSetNumbers self.old.known }
         ensures known { IfSome result (λ set. Contains self.old.known (pair, set.number)) }
@@ -72,9 +71,11 @@ impl CombinedSets {
         })
     }
 
-    /// Makes the set of a pair that is not known, and remembers its number.
+    /// Makes the set of a pair that is not known, and remembers its number. `a` and `b` are the seconds of the two sets that the
+    /// pair names, from 0 to 86,399, rising.
     ///
-    /// After `TooManyMoments` all is as it was. After `NoMemory` the set of the pair may be there, and its number known or not;
+    /// `TooManyMoments` comes if all distinct sets that were made would have together more than `MAX_SECONDS` seconds; then all
+    /// is as it was. After `NoMemory` the set of the pair may be there, and its number known or not;
     /// nothing else has changed.
     pub fn put_made(
         &mut self,

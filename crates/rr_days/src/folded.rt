@@ -18,7 +18,7 @@ use std::alloc::Global;
 /// with the number of its time set.
 ///
 /// Days are numbered from 1970-01-01, which is day 0. It takes at most four bytes for each of these days, or eight for one before
-/// the settled day, and much less where they are more than 200,025 and repeat, beside its distinct time sets. `sequence` and its
+/// the settled day, and much less if they are more than 200,025 and repeat, beside its distinct time sets. `sequence` and its
 /// kin make one.
 #[derive(Drop)]
 pub struct Folded {
@@ -71,7 +71,10 @@ pub fn sequence(
     Ok(folded)
 }
 
-/// The sequence whose days have these numbers, as `sequence` has it.
+/// The sequence whose days have these numbers, for a list of numbers in place of pages: number `k` is that of the time set, in
+/// `shapes`, of the day `first + k`.
+///
+/// There is a number for each day from `first` up to, but without, `settled + period`; days lie in the bounds of `sequence`.
 pub fn sequence_of_numbers(
     alloc: Global,
     kind: Kind,
@@ -95,8 +98,7 @@ pub fn sequence_of_numbers(
     Ok(folded)
 }
 
-// The sequence whose days have these numbers, as `sequence` has it, where those before the settled day and those of the period
-// stand apart. It takes no memory.
+// The sequence whose days have these numbers, if those before the settled day and those of the period stand apart. It takes no memory.
 fn sequence_in_parts(
     kind: Kind,
     first: i64,
@@ -115,7 +117,7 @@ fn sequence_in_parts(
     sequence_of_rest(kind, first, settled, period, before, cycle, 0, shapes)
 }
 
-// The sequence, as `sequence` has it, where the numbers of the days before the settled day stand apart, and those of the period
+// The sequence whose days have these numbers, if those before the settled day stand apart, and those of the period
 // follow the first `skipped` numbers of a row.
 fn sequence_of_rest(
     kind: Kind,
@@ -173,7 +175,7 @@ fn first_occupied(
     None
 }
 
-// The number at an index of two lists, one after the other, where the first `skipped` of the second are passed over.
+// The number at an index of two lists, one after the other, of which the first `skipped` of the second are passed over.
 fn number_at_index(before: &Pages, row: &Pages, skipped: usize, index: usize) -> FoldedSetId
     requires skipped { skipped ≤ length row.now }
     requires index { index + skipped < length before.now + length row.now }
@@ -258,7 +260,7 @@ impl Folded {
         )
     }
 
-    // For how many days in a row from a day on it is known that none is occupied; 0 where the day is occupied.
+    // For how many days in a row from a day on it is known that none is occupied; 0 if the day is occupied.
     fn free_ahead(&self, day: i64) -> u64
         requires low { earliest_taken ≤ℤ day }
         requires high { day ≤ℤ latest_taken }

@@ -5,11 +5,9 @@
 mod combined_sets;
 mod days;
 mod folded;
-mod known_pairs;
 mod op;
 
 pub use combined_sets::CombinedSets;
 pub use days::days_between;
 pub use folded::{Folded, sequence, sequence_of_numbers};
-pub use known_pairs::KnownPairs;
 pub use op::Op;

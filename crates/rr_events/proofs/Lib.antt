@@ -1,3 +1,4 @@
+pub mod BeginLemmas
 pub mod CuttingLemmas
 pub mod PartLemmas
 pub mod LineLemmas

@@ -1,3 +1,4 @@
+pub mod Begin
 pub mod Cutting
 pub mod Events
 pub mod Finding
@@ -5,3 +6,4 @@ pub mod Own
 pub mod Parameters
 pub mod RawLines
 pub mod Segments
+pub mod Words

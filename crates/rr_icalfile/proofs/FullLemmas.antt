@@ -22,7 +22,8 @@ use Rattle.rr_length.specs.declared.length.Length.{Length}
 use Rattle.rr_icalfile.specs.Event.{event_by, event_of, is_cancelled, is_component_line, is_unread, recurrence_of, recurrence_on, used_in}
 use Rattle.rr_icalfile.specs.Keys.{first_line}
 use Rattle.rr_icalfile.specs.Taken.{series_words, series_words_of}
-use Rattle.rr_icalfile.specs.Words.{cancelled_words, event_words, line_words, title_of, unescaped, words_of}
+use Rattle.rr_events.specs.Words.{line_words}
+use Rattle.rr_icalfile.specs.Words.{cancelled_words, event_words, title_of, unescaped, words_of}
 use Rattle.rr_icalfile.specs.Zones.{date_zones, event_zones, event_zones_by, series_zones, start_zone, zone_on}
 
 -- ---- one empty line

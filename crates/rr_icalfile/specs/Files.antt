@@ -1,15 +1,13 @@
 -- The events of a whole file, or why it is refused.
-use Rattle.std.specs.Prelude.{◌≡◌, ◌+◌, ◌<◌, ◌^◌, ℕ, nat_lt, Bool, if◌then◌else◌, List, length, map, codes, Vec, Result, Ok, Err, ⊤}
-use Rattle.std.specs.List.{list_any}
+use Rattle.std.specs.Prelude.{◌≡◌, ◌+◌, ◌<◌, ◌^◌, ℕ, nat_lt, if◌then◌else◌, List, length, map, Vec, Result, Ok, Err, ⊤}
 use Rattle.std.specs.Global.{Global}
 use Rattle.rr_model.specs.Text.Lines.{without_mark}
-use Rattle.rr_model.specs.Text.UsedLines.{is_named}
 use Rattle.rr_model.specs.declared.line.Line.{Line}
 use Rattle.rr_model.specs.declared.refusal.Fault.{Fault}
 use Rattle.rr_model.specs.declared.refusal.Fault.TheVariants as fault
 use Rattle.rr_model.specs.declared.refusal.Refusal.{Refusal}
 use Rattle.rr_model.specs.declared.refusal.Refusal.TheVariants as refusal
-use Rattle.rr_events.specs.Cutting.{lines_at}
+use Rattle.rr_events.specs.Begin.{has_begin}
 use Rattle.rr_events.specs.Events.{events_of}
 use Rattle.rr_events.specs.Finding.{lines_in}
 use Rattle.rr_events.specs.declared.find.Piece.{Piece}
@@ -18,10 +16,6 @@ use Rattle.rr_seam.specs.declared.file.FileFault.TheVariants as file
 use Rattle.rr_seam.specs.declared.file.FileRefusal.{FileRefusal}
 use Rattle.rr_seam.specs.declared.file.FileRefusal.TheVariants.{TooLong, NoEvents, BadLine}
 use Rattle.rr_seam.specs.declared.file.TheConstants.{MAX_FILE}
-
--- some line of a text has the name BEGIN
-abbrev pub has_begin : List ℕ → Bool
-has_begin text = list_any (λ (line : Line). is_named line.text (codes "BEGIN")) (lines_at 1 text)
 
 -- the refusal of a file for a fault of its components, which is a line at fault
 abbrev pub component_refusal : Refusal → FileRefusal

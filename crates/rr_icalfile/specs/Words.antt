@@ -1,22 +1,12 @@
 -- In which words an event is stated, and its title (RFC 5545, sections 3.1, 3.3.11, 3.8.1.11, 3.8.1.12, 3.8.2.4, 3.8.4.4 and 3.8.5).
 use Rattle.std.specs.Prelude.{ℕ, ◌==◌, Bool, true, false, ◌||◌, if◌then◌else◌, List, [], ◌∷◌, ◌++◌, codes}
 use Rattle.std.specs.List.{flat_map}
-use Rattle.rr_model.specs.Text.UsedLines.{is_named}
 use Rattle.rr_model.specs.declared.line.Line.{Line}
 use Rattle.rr_events.specs.Own.{first_value, own_lines}
+use Rattle.rr_events.specs.Words.{line_words}
 use Rattle.rr_icalfile.specs.Event.{is_cancelled}
 
 -- ---- words
-
--- a line is one of those that decide when an event occurs
-abbrev pub decides : List ℕ → Bool
-decides text =
-    is_named text (codes "DTSTART") || (is_named text (codes "RECURRENCE-ID") || (is_named text (codes "RRULE") || (is_named text (codes "EXRULE")
-    || (is_named text (codes "RDATE") || is_named text (codes "EXDATE")))))
-
--- the words of a line: the line, if it is one of those that decide
-abbrev pub line_words : Line → List (List ℕ)
-line_words line = if decides line.text then line.text ∷ [] else []
 
 -- one line more, if the event is cancelled
 abbrev pub cancelled_words : Bool → List (List ℕ)

@@ -3,35 +3,17 @@ ghost use Rattle.std.specs.Prelude.{◌≡◌, ◌<◌, ◌∷◌, ◌^◌, [], 
 ghost use Rattle.rr_events.specs.Finding.{lines_in};
 ghost use Rattle.rr_seam.specs.Files.{AnswersCalendar};
 ghost use Rattle.rr_icalfile.specs.Calendar.{calendar, calendar_in};
-ghost use Rattle.rr_icalfile.specs.Files.{AnswersFile, IsNumberedPiece, file_fault, has_begin};
+ghost use Rattle.rr_icalfile.specs.Files.{AnswersFile, IsNumberedPiece, file_fault};
 ghost use Rattle.rr_icalfile.specs.Keys.{key_of};
 
 use crate::key::key_of;
 use crate::stated::{state_key, title_at, words_at};
-use rr_events::{Piece, cut_line, find_events};
-use rr_ical::is_named;
+use rr_events::{Piece, find_events, has_begin};
 use rr_model::{Bytes, Fault, NoMemory, Refusal};
 use rr_seam::{EventFile, FileFault, FileRefusal, Key, KeyFault, KeySeries, KeyWords, MAX_FILE};
 use rr_text::without_mark;
 use std::alloc::Global;
 use std::marker::Model;
-
-// Whether some line of a text has the name BEGIN.
-fn has_begin(alloc: Global, text: &[u8]) -> Result<bool, NoMemory>
-    requires { length text.now < 2 ^ 62 }
-    ensures { IfOk result (λ b. b ≡ has_begin text.now) }
-{
-    let mut rest = text;
-    let mut number = 1u64;
-    while let Some(cut) = cut_line(alloc, rest, number)? {
-        if is_named(cut.line.text.as_slice(), b"BEGIN") {
-            return Ok(true);
-        }
-        number = cut.next;
-        rest = cut.after;
-    }
-    Ok(false)
-}
 
 // The refusal of a file for a fault of its components.
 fn file_fault(fault: Fault) -> FileFault

@@ -1,50 +1,14 @@
 // In which words an event is stated (RFC 5545, sections 3.1, 3.8.1.11, 3.8.2.4, 3.8.4.4 and 3.8.5).
-ghost use Rattle.std.specs.Prelude.{◌≡◌, ◌<◌, ◌+◌, ◌++◌, ◌^◌, length, map, flat_map, IfOk, OnOk};
+ghost use Rattle.std.specs.Prelude.{◌≡◌, ◌<◌, ◌+◌, ◌^◌, length, map, IfOk};
 ghost use Rattle.rr_events.specs.Finding.{lines_in};
 ghost use Rattle.rr_icalfile.specs.Taken.{series_words, series_words_of};
-ghost use Rattle.rr_icalfile.specs.Words.{decides, event_words, line_words, words_of};
+ghost use Rattle.rr_icalfile.specs.Words.{event_words, words_of};
 
 use crate::event::{is_cancelled, recurrence_of};
-use rr_events::{Piece, full_lines, own_lines};
-use rr_ical::is_named;
+use rr_events::{Piece, deciding_lines, full_lines, own_lines};
 use rr_model::{Bytes, Line, NoMemory};
 use rr_seam::EventWords;
 use std::alloc::Global;
-
-// Whether a line is one of those that decide when an event occurs.
-fn decides(text: &[u8]) -> bool
-    ensures { result ≡ decides text.now }
-{
-    is_named(text, b"DTSTART")
-        || is_named(text, b"RECURRENCE-ID")
-        || is_named(text, b"RRULE")
-        || is_named(text, b"EXRULE")
-        || is_named(text, b"RDATE")
-        || is_named(text, b"EXDATE")
-}
-
-// Puts the words of a line.
-fn put_line_words(alloc: Global, words: &mut Vec<Bytes>, line: &Line) -> Result<(), NoMemory>
-    ensures { OnOk result (words.new.items ≡ words.old.items ++ line_words line.now) }
-{
-    let text = line.text.as_slice();
-    if decides(text) {
-        words.push(Bytes::of(alloc, text)?)?;
-    }
-    Ok(())
-}
-
-// The lines that decide among the own lines of an event.
-fn deciding_lines(alloc: Global, own: &[&Line]) -> Result<Vec<Bytes>, NoMemory>
-    ensures { IfOk result (λ words. words.items
-        ≡ flat_map line_words (map (λ line. line.now) own.now)) }
-{
-    let mut words = Vec::new(alloc);
-    for line in own {
-        put_line_words(alloc, &mut words, line)?;
-    }
-    Ok(words)
-}
 
 // The words of an event with these own lines.
 fn words_of(alloc: Global, own: &[&Line]) -> Result<EventWords, NoMemory>

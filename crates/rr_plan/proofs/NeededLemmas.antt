@@ -1,12 +1,15 @@
 -- What a part keeps, no other part has: so no part can be left out.
-use Rattle.std.proofs.Common.{◌≡◌, ◌⊎◌, List, [], ◌∷◌, ◌++◌, All, Contains, inl, inr, ℤ, true, false, refl, arith}
+use Rattle.std.proofs.Common.{◌≡◌, ◌⊎◌, List, [], ◌∷◌, ◌++◌, All, Contains, inl, inr, ℤ, sym, ◌∙◌}
+use Rattle.std.proofs.lemmas.Bool.{cases_Bool, false≢true}
+use Rattle.std.proofs.lemmas.Cmp.{int_eq_equiv}
 use Rattle.std.proofs.lemmas.List.Elements.{All-head, All-tail}
+use Rattle.std.proofs.lemmas.Map.Views.{Contains-from_any, list_any-from_Contains}
 use Rattle.std.specs.Cmp.{signed_Decides}
+use Rattle.std.specs.List.{list_any}
 use Rattle.std.specs.Ordering.{int_eq}
 use Rattle.rr_model.specs.Moment.{Occurrences}
 use Rattle.rr_model.specs.Sets.Sketch.{StandsIn}
 use Rattle.rr_model.specs.declared.kind.Kind.{Kind}
-use Rattle.rr_model.proofs.RisingSetLemmas.{Contains-cons_cases, Contains-none, Contains-tail}
 use Rattle.rr_plan.specs.Few.{IsOneOf}
 use Rattle.rr_plan.specs.Needed.{EachPartIsNeeded}
 use Rattle.rr_plan.specs.Plan.{AreApartBy, IsKept, IsMadeBy, IsPart}
@@ -36,25 +39,12 @@ one_of_all P (p ∷ ps) after part all = one_of_all P ps after part (All-tail P 
 
 -- ---- dates and moments
 
--- two moments are the same or not
-same_or_not : (x y : ℤ) → (x ≡ y) ⊎ (x ≡ y → ⊥)
-same_or_not x y =
-    elim (int_eq x y) as (λ b. int_eq x y ≡ b → (x ≡ y) ⊎ (x ≡ y → ⊥)) [
-      | true ↦ λ h. inl ((signed_Decides x y).0 h)
-      | false ↦ λ h. inr (λ e. let p = (signed_Decides x y).1 e in cc)
-    ] refl
-
 -- a moment is there or it is not
 there_or_not : (xs : List ℤ) (t : ℤ) → Contains xs t ⊎ (Contains xs t → ⊥)
-there_or_not [] t = inr (Contains-none t)
-there_or_not (x ∷ xs) t =
-    elim (there_or_not xs t) [
-      | inl there ↦ inl (Contains-tail x xs t there)
-      | inr absent ↦ elim (same_or_not x t) [
-        | inl e ↦ inl (0, omega arith, e)
-        | inr differ ↦ inr (λ c. elim (Contains-cons_cases x xs t c) [ inl e ↦ differ e | inr more ↦ absent more ])
-      ]
-    ]
+there_or_not xs t = elim (cases_Bool (list_any (int_eq t) xs)) [
+  | inl found ↦ inl (Contains-from_any (λ x y. (signed_Decides x y).0) t xs found)
+  | inr none ↦ inr (λ there. false≢true (sym none ∙ list_any-from_Contains int_eq_equiv t xs there))
+]
 
 -- ---- the law
 

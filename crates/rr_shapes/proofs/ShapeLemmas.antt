@@ -48,7 +48,7 @@ module _ (sets : List (List ℕ)) (times : List ℕ) where
   pub absent : list_any (same times) sets ≡ false → Contains sets times → ⊥
   absent e there = true≢false (sym (list_any-from_Contains nat_list_eq_equiv times sets there) ∙ e)
 
--- what holds anyway holds where there is no answer
+-- what holds anyway holds if there is no answer
 pub if_none : {X : Type 0} (answer : Option X) (P : Type 0) → P → IfNone answer P
 if_none None P h = h
 if_none (Some x) P h = tt

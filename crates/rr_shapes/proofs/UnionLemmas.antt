@@ -26,7 +26,7 @@ same_itself p = grind (arith, nat_tests)
 pub there : {X : Type 0} (xs : List X) (place : ℕ) (x : X) → slice_get xs place ≡ Some x → Contains xs x
 there xs place x e = (place, slice_get_within xs place x e, get_or_from_slice_get xs place x x e)
 
--- where the search for a key finds nothing, no entry has a key that passes
+-- if the search for a key finds nothing, no entry has a key that passes
 pub finds_none : {K V : Type 0} (test : K → Bool) (es : List (K × V)) (k : K) (v : V) → test k ≡ true → lookup test es ≡ None → Contains es (k, v) → ⊥
 finds_none test [] k v passes none c = Contains-none (k, v) c
 finds_none {K} {V} test (e ∷ es) k v passes none c = by (finds_none test es k v passes) (test e.0) refl

@@ -33,14 +33,14 @@ impl Residues {
         }
     }
 
-    /// The number of a residue; None exactly where none was put. It takes no memory.
+    /// The number of a residue; None exactly if none was put. It takes no memory.
     pub fn get(&self, residue: u64) -> Option<u32>
         ensures { result ≡ lookup (nat_eq residue) self.now }
     {
         self.known.get(&residue).copied()
     }
 
-    /// Sets the number of a residue; all others stay.
+    /// Sets the number of a residue, in place of the one that it has, if any; all others stay. Out of memory, all is as it was.
     pub fn put(&mut self, residue: u64, number: u32) -> Result<(), NoMemory>
         ensures ok { OnOk result ((r : ℕ) → lookup (nat_eq r) self.new
             ≡ (if nat_eq r residue then Some number else lookup (nat_eq r) self.old)) }

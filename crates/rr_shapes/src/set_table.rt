@@ -18,8 +18,9 @@ use std::marker::Model;
 #[derive(Drop)]
 pub struct SetTable {
     sets: TimeSets,
+    // Of two sets, the number of their union.
     unions: PairNumbers,
-    // The same of what a second set leaves of a first.
+    // Of two sets, the number of what the second leaves of the first.
     differences: PairNumbers,
 }
 
@@ -46,7 +47,7 @@ impl SetTable {
         }
     }
 
-    /// The number of a set; one that has none yet gets the next number.
+    /// The number of a set; one that has none yet gets the next number. Out of memory too, each set keeps its number.
     pub fn place(&mut self, times: TimeSet) -> Result<SetId, NoMemory>
         ensures placed { IfOk result (λ set. slice_get self.new set.index ≡ Some times) }
         ensures kept { Extends self.old self.new }
@@ -55,7 +56,7 @@ impl SetTable {
         Ok(SetId { index })
     }
 
-    /// The seconds of a set.
+    /// The seconds of the set that has this number, from 0 to 86,399, rising.
     pub fn times(&self, set: SetId) -> &TimeSet
         requires { set.index < length self.now }
         ensures { slice_get self.now set.index ≡ Some result.now }
@@ -63,7 +64,7 @@ impl SetTable {
         self.sets.times(set.index)
     }
 
-    /// The number of the set of the first `count` seconds of `set`; `set` itself where it has no more than `count`.
+    /// The number of the set of the first `count` seconds of `set`; `set` itself if it has no more than `count`.
     #[inline(always)]
     pub fn prefix(&mut self, alloc: Global, set: SetId, count: usize) -> Result<SetId, NoMemory>
         requires { set.index < length self.old }
@@ -79,8 +80,7 @@ impl SetTable {
         self.place(first)
     }
 
-    /// The number of the union of two sets. It is made at the first question for the two, and the pair that was asked for
-    /// last is looked for nowhere else.
+    /// The number of the union of two sets. It is made at the first question for the two in this order, and remembered.
     pub fn union(&mut self, alloc: Global, a: SetId, b: SetId) -> Result<SetId, NoMemory>
         requires a { a.index < length self.old }
         requires b { b.index < length self.old }
@@ -106,8 +106,8 @@ impl SetTable {
         Ok(set)
     }
 
-    /// The number of the seconds of one set that another lacks. It is made at the first question for the two, and the pair
-    /// that was asked for last is looked for nowhere else.
+    /// The number of the set of the seconds that `a` has and `b` lacks. It is made at the first question for the two, and
+    /// remembered.
     pub fn difference(&mut self, alloc: Global, a: SetId, b: SetId) -> Result<SetId, NoMemory>
         requires a { a.index < length self.old }
         requires b { b.index < length self.old }

@@ -60,9 +60,9 @@ impl Shapes {
 
     /// The number of a set; one that has none yet gets the next number.
     ///
-    /// A new set is refused as `TooManyMoments` exactly where it would bring the sum of all sizes above
-    /// `MAX_SECONDS`. After either fault all is as it was. A set equal to the one that was given its number last is
-    /// looked for nowhere else.
+    /// A new set is refused as `TooManyMoments` exactly if it would bring the sum of all sizes above
+    /// `MAX_SECONDS`. After either fault all is as it was. A set equal to the last one that was numbered or found is not
+    /// hashed.
     pub fn place(&mut self, times: TimeSet) -> Result<FoldedSetId, Fault>
         ensures placed { IfOk result (λ set. IsPlaced times self.old self.new set.number) }
         ensures refused { RefusedExactlyWhere (IsTooMany times self.old)
@@ -89,8 +89,10 @@ impl Shapes {
         })
     }
 
-    /// The number of the set of these seconds, as `place` gives it. A set equal to the one that was given its number
-    /// last takes no memory.
+    /// The number of the set of these seconds; one that has none yet gets the next number.
+    ///
+    /// A new set is refused as `TooManyMoments` exactly if it would bring the sum of all sizes above `MAX_SECONDS`. After
+    /// either fault all is as it was. Seconds equal to the last set that was numbered or found take no memory.
     pub fn place_seconds(&mut self, alloc: Global, times: &[u32]) -> Result<FoldedSetId, Fault>
         requires of_day { IsSecondsOfDay times.now }
         ensures placed { IfOk result (λ set. IsPlaced times.now self.old self.new set.number) }
@@ -111,7 +113,7 @@ impl Shapes {
         }
     }
 
-    /// The seconds of a set, in order.
+    /// The seconds of the set that has this number, from 0 to 86,399, rising.
     pub fn times(&self, set: FoldedSetId) -> &[u32]
         requires { set.number < length self.now }
         ensures same { slice_get self.now set.number ≡ Some result.now }

@@ -1,4 +1,4 @@
-// Time sets by numbers: the one place where a set gets its number.
+// Time sets by numbers: here alone a set gets its number.
 ghost use Rattle.std.specs.Prelude.{◌≡◌, ◌<◌, [], Contains, IfOk, IfNone, IfSome, IsTrue, OnErr, Some, length, slice_get, nat_eq};
 ghost use Rattle.std.specs.Cmp.Lexicographic.{pointwise};
 
@@ -10,7 +10,7 @@ use std::marker::Model;
 
 /// Distinct time sets, with numbers from 0 in the order of their first placing.
 ///
-/// A set keeps its number. Contracts see it as the list of the sets, each a rising list, at its number.
+/// A set keeps its number, and none is ever taken out. Contracts see it as the list of the sets, each a rising list, at its number.
 #[derive(Drop)]
 pub struct TimeSets {
     sets: IndexSet<TimeSet>,
@@ -44,7 +44,8 @@ impl TimeSets {
         }
     }
 
-    /// The number that was given last, where its set has these seconds. Nothing is hashed.
+    /// The number that was given or found last, if its set has these seconds; otherwise None, which says nothing. It takes no
+    /// memory, and nothing is hashed.
     #[inline(always)]
     pub fn last_number(&self, times: &[u32]) -> Option<usize>
         ensures { IfSome result (λ n. slice_get self.now n ≡ Some times.now) }
@@ -55,9 +56,9 @@ impl TimeSets {
         None
     }
 
-    /// The number of a set; None exactly where it has none yet. It takes no memory.
+    /// The number of a set; None exactly if it has none yet. It takes no memory.
     ///
-    /// A set equal to the one that was given its number last is looked for nowhere else.
+    /// A set equal to the last one that was numbered or found is not hashed.
     #[inline(always)]
     pub fn find(&mut self, times: &TimeSet) -> Option<usize>
         ensures found { IfSome result (λ n. slice_get self.old n ≡ Some times.now) }
@@ -74,7 +75,7 @@ impl TimeSets {
 
     /// The number of a set; one that has none yet gets the next number. After an error all is as it was.
     ///
-    /// A set equal to the one that was given its number last is looked for nowhere else.
+    /// A set equal to the last one that was numbered or found is not hashed.
     #[inline(always)]
     pub fn intern(&mut self, times: TimeSet) -> Result<usize, NoMemory>
         ensures placed { IfOk result (IsPlaced times self.old self.new) }
@@ -87,7 +88,9 @@ impl TimeSets {
         self.insert(times)
     }
 
-    /// The same, for a set that is known or likely to be another than the last one, with which it is not compared first.
+    /// The number of a set; one that has none yet gets the next number. After an error all is as it was.
+    ///
+    /// The set is hashed at once, and not compared with the last one first: for sets that are likely to be another.
     pub fn insert(&mut self, times: TimeSet) -> Result<usize, NoMemory>
         requires of_day { IsSecondsOfDay times }
         ensures placed { IfOk result (IsPlaced times self.old self.new) }
@@ -101,7 +104,7 @@ impl TimeSets {
         Ok(number)
     }
 
-    /// The set of a number.
+    /// The set that has this number.
     pub fn times(&self, number: usize) -> &TimeSet
         requires { number < length self.now }
         ensures { slice_get self.now number ≡ Some result.now }
@@ -109,7 +112,7 @@ impl TimeSets {
         &self.sets[number]
     }
 
-    /// How many sets there are.
+    /// How many sets have a number: the number that the next one gets.
     pub fn count(&self) -> usize
         ensures { result ≡ length self.now }
     {

@@ -1,4 +1,3 @@
-mod BeginLemmas
 mod PartLemmas
 mod FileLemmas
 mod WordsLemmas

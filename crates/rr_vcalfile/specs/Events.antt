@@ -1,12 +1,10 @@
 -- The events of a vCalendar 1.0 text, each as its lines (vCalendar 1.0, sections 2.1.1 to 2.1.3).
-use Rattle.std.specs.Prelude.{ℕ, nat_lt, Bool, true, if◌then◌else◌, List, [], ◌∷◌, length, codes, Result, Ok, Err}
-use Rattle.std.specs.List.{list_any}
+use Rattle.std.specs.Prelude.{ℕ, nat_lt, true, if◌then◌else◌, List, [], ◌∷◌, length, Result, Ok, Err}
 use Rattle.rr_model.specs.Text.Lines.{physical_lines, with_physical_lines, without_mark}
-use Rattle.rr_model.specs.Text.UsedLines.{is_named}
 use Rattle.rr_model.specs.declared.line.Line.{Line}
 use Rattle.rr_model.specs.declared.refusal.Refusal.{Refusal}
 use Rattle.rr_model.specs.declared.refusal.Refusal.TheVariants as refusal
-use Rattle.rr_events.specs.Cutting.{lines_at}
+use Rattle.rr_events.specs.Begin.{has_begin}
 use Rattle.rr_events.specs.RawLines.{RawLine, bytes_of}
 use Rattle.rr_events.specs.Segments.{Section, Sections, sections_of}
 use Rattle.rr_ical.specs.declared.open_names.Sought.TheVariants.{Events}
@@ -31,10 +29,6 @@ lines_of_event raws = kept_lines (first_number raws) (bytes_of raws)
 abbrev pub events_in : List Section → List (List Line)
 events_in [] = []
 events_in (section ∷ sections) = if section.is_component then lines_of_event section.lines ∷ events_in sections else events_in sections
-
--- some line of a text has the name BEGIN
-abbrev pub has_begin : List ℕ → Bool
-has_begin text = list_any (λ (line : Line). is_named line.text (codes "BEGIN")) (lines_at 1 text)
 
 -- the refusal of a file for a fault of its components, which is a line at fault
 abbrev pub component_refusal : Refusal → FileRefusal

@@ -5,9 +5,8 @@ ghost use Rattle.rr_ical.specs.declared.open_names.Sought.TheVariants.{Events};
 ghost use Rattle.rr_vcalfile.specs.Events.{events_in, events_or_refusal, text_events};
 ghost use Rattle.rr_vcalfile.specs.Parts.{AnswersEvents, IsNumbered, component_fault, lines_in};
 
-use crate::begin::has_begin;
 use crate::part::Part;
-use rr_events::{Piece, Segment, segments};
+use rr_events::{Piece, Segment, has_begin, segments};
 use rr_ical::Sought;
 use rr_model::{Fault, LineList, NoMemory, Refusal};
 use rr_seam::{FileFault, FileRefusal};

@@ -1,7 +1,6 @@
 //! A vCalendar 1.0 text with any number of events as a file of events.
 #![tactic(auto)]
 
-mod begin;
 mod event;
 mod file;
 mod find;

@@ -1,51 +1,15 @@
 // In which words an event is stated, and its title (vCalendar 1.0, sections 2.1.3 and 2.2).
-ghost use Rattle.std.specs.Prelude.{◌≡◌, ◌++◌, flat_map, map, IfOk, OnOk};
+ghost use Rattle.std.specs.Prelude.{◌≡◌, ◌++◌, map, IfOk, OnOk};
 ghost use Rattle.rr_vcalfile.specs.Parts.{lines_in};
 ghost use Rattle.rr_vcalfile.specs.Stated.{text_at, texts_at, title_at};
-ghost use Rattle.rr_vcalfile.specs.Words.{decides, event_words, line_words, title_of, words_in};
+ghost use Rattle.rr_vcalfile.specs.Words.{event_words, title_of, words_in};
 
 use crate::find::part_lines;
 use crate::part::Part;
-use rr_events::{first_value, own_lines};
-use rr_ical::is_named;
-use rr_model::{Bytes, Line, NoMemory};
+use rr_events::{deciding_lines, first_value, own_lines};
+use rr_model::{Bytes, NoMemory};
 use rr_seam::{EventWords, KeyWords, Language};
 use std::alloc::Global;
-
-// Whether a line is one of those that decide when an event occurs.
-fn decides(text: &[u8]) -> bool
-    ensures { result ≡ decides text.now }
-{
-    is_named(text, b"DTSTART")
-        || is_named(text, b"RECURRENCE-ID")
-        || is_named(text, b"RRULE")
-        || is_named(text, b"EXRULE")
-        || is_named(text, b"RDATE")
-        || is_named(text, b"EXDATE")
-}
-
-// Puts the words of a line.
-fn put_line_words(alloc: Global, words: &mut Vec<Bytes>, line: &Line) -> Result<(), NoMemory>
-    ensures { OnOk result (words.new.items ≡ words.old.items ++ line_words line.now) }
-{
-    let text = line.text.as_slice();
-    if decides(text) {
-        words.push(Bytes::of(alloc, text)?)?;
-    }
-    Ok(())
-}
-
-// The lines that decide among the own lines of an event.
-fn deciding_lines(alloc: Global, own: &[&Line]) -> Result<Vec<Bytes>, NoMemory>
-    ensures { IfOk result (λ words. words.items
-        ≡ flat_map line_words (map (λ line. line.now) own.now)) }
-{
-    let mut words = Vec::new(alloc);
-    for line in own {
-        put_line_words(alloc, &mut words, line)?;
-    }
-    Ok(words)
-}
 
 /// Reads the words of an event.
 pub(crate) fn read_words(alloc: Global, part: Part) -> Result<EventWords, NoMemory>

@@ -50,7 +50,7 @@ module _ (f : ℤ → List ℕ) (q : ℤ) where
         ]
       ]
 
-  -- whether it repeats after r days, where it repeats after p
+  -- whether it repeats after r days, if it repeats after p
   repeats_or_not : (p r : ℕ) → 1 ≤ p → RepeatsFrom f q p → RepeatsFrom f q r ⊎ (RepeatsFrom f q r → ⊥)
   repeats_or_not p r some h =
       elim (walk r p) [

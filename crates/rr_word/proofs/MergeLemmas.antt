@@ -88,7 +88,7 @@ next_if_level (x ∷ xs) (y ∷ ys) a b some r q =
     let same : y ≡ x = grind (arith, nat_tests) in
     rw (after_is x xs, after_is y ys, same) (next_on_both x xs ys r (subst (λ (z : ℕ). Rises nat_lt (z ∷ ys)) same q))
 
--- where neither list is ahead and the first is empty, the second is too
+-- if neither list is ahead and the first is empty, the second is too
 pub none_left : (xs ys : List ℕ) → is_ahead ys xs ≡ false → length xs ≡ 0 → (xs ≡ []) × (ys ≡ [])
 none_left [] [] b none = (refl, refl)
 none_left [] (y ∷ ys) b none = absurd (false≢true (sym b))

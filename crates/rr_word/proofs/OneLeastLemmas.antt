@@ -34,7 +34,7 @@ first_period s d l h =
     let back : day_in_cycle s d ≡ d = rw e (rw m (omega (arith, ints))) in
     cycle_part s d l ∙ ap (times_in s.cycle) back
 
--- where nothing repeats, no day from the settled one on is occupied
+-- if nothing repeats, no day from the settled one on is occupied
 pub finite_end : (s : Sketch) (d : ℤ) → s.cycle ≡ [] → s.settled ≤ℤ d → times_on s d ≡ []
 finite_end s d none l = cycle_part s d l ∙ ap (λ c. times_in c (day_in_cycle s d)) none
 

@@ -109,14 +109,14 @@ repeats_exactly s q r p days t e f has is = (
 pub repeats_from_later : (s : Sketch) (q : ℤ) (p : ℕ) → IsValidSketch s → s.settled ≤ℤ q → IsEventualPeriod (times_on s) p → RepeatsFrom (times_on s) q p
 repeats_from_later s q p v l h d m = repeats_from_start (times_on s) s.settled s.period p v.period (repeats s v) h d (omega (arith, ints))
 
--- and from a day before, where the days from there on repeat
+-- and from a day before, if the days from there on repeat
 pub repeats_back : (s : Sketch) (q before r : ℤ) (n p : ℕ) → before ≡ r → q ≡ before +ℤ pos n → RepeatsFrom (times_on s) q p → SameAfter s r n p
     → RepeatsFrom (times_on s) before p
 repeats_back s q before r n p er e h same d l =
     let P : Type 0 = times_on s (d +ℤ pos p) ≡ times_on s d in
     by_lt_z {P = P} d q (λ m. same d (omega (arith, ints)) (omega (arith, ints))) (λ g. h d g)
 
--- and from the day before, where that day repeats
+-- and from the day before, if that day repeats
 pub repeats_from_before : (s : Sketch) (q before later : ℤ) (p : ℕ) → before ≡ q -ℤ pos 1 → later ≡ before +ℤ pos p → RepeatsFrom (times_on s) q p
     → times_on s before ≡ times_on s later → RepeatsFrom (times_on s) before p
 repeats_from_before s q before later p e f h same d l =
@@ -132,7 +132,7 @@ module _ (s : Sketch) (first : ℤ) (p : ℕ) (is_first : IsFirstDay s (Some fir
       let same = one_first s f first hf is_first in
       record { not_before = omega (arith, ints); repeats = h; least = λ r low hr. omega (arith, ints) }
 
-  -- the walk ended where the day before does not repeat
+  -- the walk ended since the day before does not repeat
   pub start_found : (q before later : ℤ) → before ≡ q -ℤ pos 1 → later ≡ before +ℤ pos p → first ≤ℤ q → RepeatsFrom (times_on s) q p
       → (times_on s before ≡ times_on s later → ⊥) → (f : ℤ) → IsFirstDay s (Some f) → IsLeastStart (times_on s) f p q
   start_found q before later e g low h differ f hf =

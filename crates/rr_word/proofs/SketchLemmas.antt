@@ -58,7 +58,7 @@ fits_in_set Days xs x e c =
     ]
 fits_in_set Moments xs x g c = (All-contains (λ y. y < 86_400) xs x g.2 c, λ no. absurd (cc))
 
--- a second that stands is one of the day, and 0 where the sketch is of dates
+-- a second that stands is one of the day, and 0 if the sketch is of dates
 pub second_fits : (s : Sketch) (d : ℤ) (x : ℕ) → IsValidSketch s → Contains (times_on s d) x → (x < 86_400) × (s.kind ≡ Days → x ≡ 0)
 second_fits s d x v c =
     elim (set_on s d v) [

@@ -55,7 +55,7 @@ impl<A: DaySeq + Drop, L: Ledger> Counted<A, L> {
         self.seq.first()
     }
 
-    /// The day from which on it repeats.
+    /// The day from which on it repeats, in days since 1970-01-01. It may lie before the first occupied day or after it.
     pub fn settled(&self) -> i64
         ensures value { result ≡ (A.sketch self.now).settled }
         ensures near { IsNearDay result }
@@ -83,7 +83,7 @@ impl<A: DaySeq + Drop, L: Ledger> Counted<A, L> {
         self.seq.at(day)
     }
 
-    /// The number of the time set of a day within 3,000,000,000,000 either way, in one step; none only where the day is
+    /// The number of the time set of a day within 3,000,000,000,000 either way, in one step; None only if the day is
     /// not occupied.
     pub fn read_number(&self, day: i64, steps: &mut Steps<L>) -> Option<u32>
         requires low { earliest_taken ≤ℤ day }
@@ -96,7 +96,7 @@ impl<A: DaySeq + Drop, L: Ledger> Counted<A, L> {
     }
 
     /// For how many days in a row from a day within 3,000,000,000,000 either way on, itself the first of them, it is known at
-    /// once that none is occupied. It is one step where it tells of a day, and none where it is 0, which tells nothing.
+    /// once that none is occupied. It is one step if it tells of a day, and none if it is 0, which tells nothing.
     pub fn read_free(&self, day: i64, steps: &mut Steps<L>) -> u64
         requires low { earliest_taken ≤ℤ day }
         requires high { day ≤ℤ latest_taken }
@@ -147,7 +147,7 @@ pub struct DaysAfter<'a, L: Ledger> {
 }
 
 impl<'a, L: Ledger> DaysAfter<'a, L> {
-    /// How many days they are.
+    /// How many days these are, which costs no step.
     pub fn count(&self) -> usize
         ensures { result ≡ length self.now.numbers.now }
     {

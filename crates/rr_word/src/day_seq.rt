@@ -10,7 +10,7 @@ use rr_model::Kind;
 /// The number of a day's time set, and those of the days after it, one after another, as far as they are kept in a row.
 #[derive(Clone, Copy)]
 pub struct Stretch<'a> {
-    /// The day's own number; none only where the day is not occupied.
+    /// The day's own number; None only if the day is not occupied.
     pub first: Option<u32>,
     /// The numbers of the days after it.
     pub rest: &'a [u32],
@@ -23,7 +23,7 @@ pub struct Stretch<'a> {
 /// either way, and the period is at most 1,000,000,000.
 /// No call takes memory.
 pub trait DaySeq {
-    /// The sequence as a sketch.
+    /// The occurrences as a sketch: occupied days at the front, and days that repeat for ever.
     ghost sketch: { Self → Sketch };
 
     /// Its time sets, by their numbers.
@@ -33,12 +33,12 @@ pub trait DaySeq {
     fn kind(&self) -> Kind
         ensures { result ≡ (sketch self.now).kind };
 
-    /// The first occupied day; None exactly for the empty set.
+    /// The first occupied day, in days since 1970-01-01; None exactly for the empty set.
     fn first(&self) -> Option<i64>
         ensures first { IsFirstDay (sketch self.now) result }
         ensures near { IfSome result IsNearDay };
 
-    /// The day from which on it repeats. It may lie before the first occupied day or after it.
+    /// The day from which on it repeats, in days since 1970-01-01. It may lie before the first occupied day or after it.
     fn settled(&self) -> i64
         ensures value { result ≡ (sketch self.now).settled }
         ensures near { IsNearDay result };
@@ -64,13 +64,13 @@ pub trait DaySeq {
         ensures { IsStretch (sets self.now) (sketch self.now) day result.first result.rest.now };
 
     /// For how many days in a row from a day within 3,000,000,000,000 either way on, itself the first of them, it is known at
-    /// once that none is occupied; 0 where the day is occupied, and where nothing is known.
+    /// once that none is occupied; 0 if the day is occupied, and if nothing is known.
     fn free_days(&self, day: i64) -> u64
         requires low { earliest_taken ≤ℤ day }
         requires high { day ≤ℤ latest_taken }
         ensures { AreFree (sketch self.now) day result };
 
-    /// The seconds of the time set of a number.
+    /// The seconds of the time set of a number, from 0 to 86,399, rising.
     fn times(&self, number: u32) -> &[u32]
         requires { number < length (sets self.now) }
         ensures { slice_get (sets self.now) number ≡ Some result.now };
@@ -79,7 +79,7 @@ pub trait DaySeq {
     ghost bounded: { (s : Self) → IsDaySequence (sketch s) };
 }
 
-/// The seconds of the time set of a number; none without a number.
+/// The seconds of the time set of a number, from 0 to 86,399, rising; none without a number.
 pub fn seconds<S: DaySeq>(seq: &S, number: Option<u32>) -> &[u32]
     requires { IfSome number (λ n. n < length (S.sets seq.now)) }
     ensures { MatchOption number (result.now ≡ [])

@@ -10,7 +10,7 @@ use crate::DaySeq;
 use crate::same::{are_same, repeats_after, same_on};
 use rr_num::least_factor;
 
-// The period over the factor where the sequence repeats after that many days too, and else the period.
+// The period over the factor if the sequence repeats after that many days too, and otherwise the period.
 fn divided_once<A: DaySeq>(seq: &A, period: u64, factor: u64) -> u64
     requires period { HasPeriodFrom (times_on (A.sketch seq.now))
         (A.sketch seq.now).settled period }

@@ -8,9 +8,9 @@ use rr_model::Side;
 /// The least second of two lists, the side that has it, and the seconds after it.
 #[derive(Drop)]
 pub struct NextSecond<'a> {
-    /// The second of the day.
+    /// The second of the day, from 0 to 86,399.
     pub second: u32,
-    /// Which list has it.
+    /// Which list has it: the first (A), the second (B) or both.
     pub side: Side,
     /// The seconds of the first list after it.
     pub xs: &'a [u32],
@@ -29,7 +29,8 @@ fn is_ahead(xs: &[u32], ys: &[u32]) -> bool
     }
 }
 
-/// The least second of both lists, None where both are empty.
+/// The least second of two rising lists, with the side that has it and what comes after it in each; None exactly if both are
+/// empty.
 pub fn next_second<'a>(xs: &'a [u32], ys: &'a [u32]) -> Option<NextSecond<'a>>
     requires xs { Rises nat_lt xs.now }
     requires ys { Rises nat_lt ys.now }

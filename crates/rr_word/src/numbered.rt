@@ -9,9 +9,9 @@ use std::marker::Model;
 /// An occupied day and the number of its time set.
 #[derive(Clone, Copy)]
 pub struct NumberedDay {
-    /// The day number.
+    /// The day, in days since 1970-01-01.
     pub day: i32,
-    /// The number of its time set.
+    /// The number of its time set. The caller knows in which list.
     pub number: u32,
 }
 
@@ -42,7 +42,7 @@ impl NumberedDays {
         }
     }
 
-    /// Puts a day at the end.
+    /// Puts a day at the end. Days come in any order. Out of memory, all is as it was.
     pub fn put(&mut self, day: NumberedDay) -> Result<(), NoMemory>
         ensures ok { OnOk result (self.new ≡ self.old ++ day ∷ []) }
         ensures err { OnErr result (self.new ≡ self.old) }
@@ -51,14 +51,14 @@ impl NumberedDays {
         Ok(())
     }
 
-    /// The number on a day; None exactly where no pair has it.
+    /// The number that was put first for a day, in days since 1970-01-01; None exactly if none was put.
     pub fn number_on(&self, day: i64) -> Option<u32>
         ensures { result ≡ number_in self.now day }
     {
         number_on_day(self.items.as_slice(), day)
     }
 
-    /// The days in order.
+    /// The days with their numbers, in the order in which they were put.
     pub fn as_slice(&self) -> &[NumberedDay]
         ensures { result.now ≡ self.now }
     {

@@ -21,7 +21,7 @@ pub struct PairMemo {
 }
 
 impl PairMemo {
-    /// No pair is remembered.
+    /// A memo that remembers no pair.
     #[inline(always)]
     pub fn new() -> PairMemo
         ensures { (a b : ℕ) → KeepsPair result a b → ⊥ }
@@ -31,7 +31,7 @@ impl PairMemo {
         }
     }
 
-    /// Whether a pair is remembered.
+    /// Whether a pair is remembered: it was put, and none was put into its slot since.
     #[inline(always)]
     pub fn has(&self, pair: Pair) -> bool
         ensures { IsTrue result ↔ KeepsPair self.now pair.a pair.b }
@@ -42,7 +42,7 @@ impl PairMemo {
         }
     }
 
-    /// Remembers a pair, instead of the last one of its slot.
+    /// Remembers a pair, in place of the last one that was put into its slot.
     #[inline(always)]
     pub fn put(&mut self, pair: Pair)
         ensures { IsPut self.old self.new pair }

@@ -9,7 +9,7 @@ ghost use Rattle.rr_word.specs.Stretches.{IsNumberOn, SameAfter, SameOn};
 
 use crate::DaySeq;
 
-/// Whether two days have the same seconds. These are read only where the numbers of both days differ.
+/// Whether two days have the same seconds. These are read only if the numbers of both days differ.
 pub fn same_on<A: DaySeq>(seq: &A, day: i64, other: i64) -> bool
     requires near { IsDayWithin 0 day }
     requires other_near { IsDayWithin 0 other }
@@ -24,7 +24,7 @@ pub fn same_on<A: DaySeq>(seq: &A, day: i64, other: i64) -> bool
     )
 }
 
-// Whether two days have the same seconds, by the numbers of their sets where these tell.
+// Whether two days have the same seconds, by the numbers of their sets if these tell.
 fn have_same<A: DaySeq>(
     seq: &A,
     day: i64,
@@ -70,7 +70,7 @@ fn count_equal(xs: &[u32], ys: &[u32], most: usize) -> usize
     end
 }
 
-// How many days from one on, of at most `most`, are seen at once to have the seconds of the days `later` days later; 0 only where
+// How many days from one on, of at most `most`, are seen at once to have the seconds of the days `later` days later; 0 only if
 // the first has not.
 fn count_same<A: DaySeq>(seq: &A, day: i64, later: u64, most: u64) -> u64
     requires low { earliest_near ≤ℤ day }

@@ -3,7 +3,7 @@ use Rattle.std.specs.Prelude.{Err}
 use Rattle.std.proofs.lemmas.Result.{err_from_is_err_and}
 use Rattle.rr_shapes.specs.declared.ids.FoldedSetId.{FoldedSetId}
 use Rattle.rr_days.specs.MadeSets.{IsMadeSet}
-use Rattle.rr_days.proofs.MadeSetLemmas.{left_with_set, made_known, refused_one, unchanged_left}
+use Rattle.rr_days.proofs.MadeSetLemmas.{left_with_set, made_known, new_kept, refused_one, unchanged_left}
 use Rattle.rr_days.proofs.combined_sets.CombinedSets.put_made.Goals as goal
 
 pub returns-in_ok-put-in-Ok-clause-made : goal.returns-in_ok-put-in-Ok-clause-made
@@ -18,6 +18,10 @@ returns-in_ok-put-in-Ok-clause-known c =
     let small : c.in-Ok.set.number ≤ 4_294_967_295 = search rules in
     made_known c.args.op c.args.pair c.args.a.now c.args.b.now old new c.args.self.now.known c.put.new.self c.in-Ok.set.number set small
     c.in_ok-put-in-Ok.ensures.nothing_else
+
+pub returns-in_ok-put-in-Ok-clause-kept : goal.returns-in_ok-put-in-Ok-clause-kept
+returns-in_ok-put-in-Ok-clause-kept c =
+    new_kept c.args.self.now.known c.put.new.self c.args.pair c.requires.new c.put.ensures.kept
 
 pub returns-in-Err-clause-refused : goal.returns-in-Err-clause-refused
 returns-in-Err-clause-refused c =

@@ -1,14 +1,14 @@
-// Whether a text has components at all (vCalendar 1.0, section 2.1.1).
+// Whether a text has components at all (RFC 5545, section 3.6; vCalendar 1.0, section 2.1.1).
 ghost use Rattle.std.specs.Prelude.{◌≡◌, ◌<◌, ◌^◌, length, IfOk};
-ghost use Rattle.rr_vcalfile.specs.Events.{has_begin};
+ghost use Rattle.rr_events.specs.Begin.{has_begin};
 
-use rr_events::cut_line;
+use crate::cut::cut_line;
 use rr_ical::is_named;
 use rr_model::NoMemory;
 use std::alloc::Global;
 
-/// Whether some line of a text has the name BEGIN.
-pub(crate) fn has_begin(alloc: Global, text: &[u8]) -> Result<bool, NoMemory>
+/// Whether some line of a text has the name BEGIN, in either case; without one it has no components.
+pub fn has_begin(alloc: Global, text: &[u8]) -> Result<bool, NoMemory>
     requires { length text.now < 2 ^ 62 }
     ensures { IfOk result (λ b. b ≡ has_begin text.now) }
 {

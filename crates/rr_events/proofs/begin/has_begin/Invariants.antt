@@ -1,6 +1,6 @@
 use Rattle.std.proofs.Common.{length}
-use Rattle.rr_icalfile.proofs.FileLemmas.{IsUnread}
-use Rattle.rr_icalfile.proofs.file.has_begin.Given as goal
+use Rattle.rr_events.proofs.BeginLemmas.{IsUnread}
+use Rattle.rr_events.proofs.begin.has_begin.Given as goal
 
 abbrev pub invariant-loop-cut : goal.invariant-loop-cut
 invariant-loop-cut l = IsUnread l.text l.rest l.number

@@ -1,13 +1,12 @@
 -- A text has a BEGIN exactly if some line from here on has it.
-use Rattle.std.proofs.Common.{◌≡◌, ℕ, ◌+◌, ◌≤◌, Bool, true, false, ◌||◌, List, [], ◌∷◌, length, length-drop, take, drop, codes, Some, None, sym, refl, ap, ◌∙◌, arith}
-use Rattle.std.specs.Prelude.{bytes_eq, if◌then◌else◌, unwrap_or}
+use Rattle.std.proofs.Common.{◌≡◌, ℕ, ◌+◌, ◌≤◌, Bool, true, false, ◌||◌, List, [], length, codes, sym, refl, ap, ◌∙◌, arith}
 use Rattle.std.specs.List.{list_any}
-use Rattle.rr_model.specs.Text.Lines.{physical_lines, without_mark}
+use Rattle.rr_model.specs.Text.Lines.{physical_lines}
 use Rattle.rr_model.specs.Text.UsedLines.{is_named}
 use Rattle.rr_model.specs.declared.line.Line.{Line}
 use Rattle.rr_events.specs.Cutting.{IsCut, lines_at}
 use Rattle.rr_events.proofs.LineLemmas.{line-first}
-use Rattle.rr_vcalfile.specs.Events.{has_begin}
+use Rattle.rr_events.specs.Begin.{has_begin}
 
 -- a line has the name BEGIN
 abbrev begins : Line → Bool
@@ -40,10 +39,3 @@ IsUnread-next text rest after number next line unread cut e = record {
 pub not_begun : (text rest : List ℕ) (number : ℕ) → IsUnread text rest number → rest ≡ [] → false ≡ has_begin text
 unfolding physical_lines
 not_begun text rest number unread none = sym (unread.same ∙ ap (λ bytes. list_any begins (lines_at number bytes)) none)
-
-pub length_without_mark : (bytes : List ℕ) → length (without_mark bytes) ≤ length bytes
-length_without_mark bytes = by (bytes_eq (take 3 bytes) (239 ∷ 187 ∷ 191 ∷ []))
-  where
-    by : (b : Bool) → length (unwrap_or (if b then Some (drop 3 bytes) else None) bytes) ≤ length bytes
-    by true = omega (arith, length-drop 3 bytes)
-    by false = omega arith

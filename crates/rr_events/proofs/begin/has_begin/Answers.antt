@@ -1,7 +1,7 @@
 use Rattle.std.proofs.Common.{rules}
 use Rattle.rr_events.proofs.LineLemmas.{cut-of, no-cut}
-use Rattle.rr_icalfile.proofs.FileLemmas.{IsUnread-next, IsUnread-start, begun, not_begun}
-use Rattle.rr_icalfile.proofs.file.has_begin.Goals as goal
+use Rattle.rr_events.proofs.BeginLemmas.{IsUnread-next, IsUnread-start, begun, not_begun}
+use Rattle.rr_events.proofs.begin.has_begin.Goals as goal
 
 pub loop-cut-init : goal.loop-cut-init
 loop-cut-init c = IsUnread-start c.args.text.now

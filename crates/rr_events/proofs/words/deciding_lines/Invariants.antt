@@ -1,7 +1,7 @@
 use Rattle.std.proofs.Common.{◌≡◌, ◌++◌, drop, map}
 use Rattle.std.specs.Prelude.{flat_map}
-use Rattle.rr_icalfile.specs.Words.{line_words}
-use Rattle.rr_icalfile.proofs.words.deciding_lines.Given as goal
+use Rattle.rr_events.specs.Words.{line_words}
+use Rattle.rr_events.proofs.words.deciding_lines.Given as goal
 
 abbrev pub invariant-loop-line : goal.invariant-loop-line
 invariant-loop-line l =
