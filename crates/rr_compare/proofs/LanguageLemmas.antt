@@ -1,8 +1,28 @@
 -- What the lines of a text say of its version, line by line.
-use Rattle.std.proofs.Common.{◌≡◌, ℕ, Bool, false, ◌||◌, List, [], Option, Some, None, ap, sym, ◌∙◌}
+use Rattle.std.proofs.Common.{◌≡◌, ℕ, Bool, true, false, ◌||◌, List, [], ◌∷◌, Option, Some, None, refl, ap, sym, ◌∙◌}
+use Rattle.rr_events.specs.Cutting.{AreEmpty}
 use Rattle.rr_model.specs.Text.Lines.{physical_lines}
+use Rattle.rr_model.specs.Text.UsedLines.{line_kind}
 use Rattle.rr_text.specs.Physical.{IsCutAt}
 use Rattle.rr_compare.specs.Languages.{head_says, is_begin, is_version_one, said_or, version_from}
+
+-- an empty line says nothing
+empty_says : (begun : Bool) (lines : List (List ℕ)) → version_from begun ([] ∷ lines) ≡ version_from begun lines
+unfolding line_kind
+empty_says true lines = refl
+empty_says false lines = refl
+
+empty_lines : (after : List ℕ) → physical_lines (10 ∷ after) ≡ [] ∷ physical_lines after
+unfolding physical_lines
+empty_lines after = refl
+
+-- empty lines say nothing
+pub empty_passed : (begun : Bool) (number : ℕ) (text rest : List ℕ) (at : ℕ) → AreEmpty number text rest at
+    → version_from begun (physical_lines text) ≡ version_from begun (physical_lines rest)
+empty_passed begun number text rest at AreEmpty.none = refl
+empty_passed begun number text _ _ (AreEmpty.more rest after at empty one) =
+    empty_passed begun number text rest at empty ∙ ap (λ (r : List ℕ). version_from begun (physical_lines r)) one.is
+    ∙ ap (version_from begun) (empty_lines after) ∙ empty_says begun (physical_lines after)
 
 module _ (text rest : List ℕ) (begun : Bool) (so_far : is_version_one text ≡ version_from begun (physical_lines rest)) where
   -- one line says it

@@ -3,6 +3,7 @@ ghost use Rattle.std.specs.Prelude.{◌≡◌, position};
 ghost use Rattle.rr_compare.specs.Languages.{head_says, is_begin, is_json, is_json_blank, is_json_part, is_open, is_version_one, language_by, language_in, says_version_one};
 
 use crate::operand::Language;
+use rr_events::after_empty_lines;
 use rr_ical::{is_named, line_kind, value_of_line};
 use rr_model::LineKind;
 use rr_text::{take_line, trim, without_mark};
@@ -72,14 +73,14 @@ fn head_says(is_begun: bool, line: &[u8]) -> Option<bool>
 fn is_version_one(text: &[u8]) -> bool
     ensures { result ≡ is_version_one text.now }
 {
-    let mut rest = text;
+    let mut rest = after_empty_lines(text, 0).text;
     let mut is_begun = false;
     while let Some((line, after)) = take_line(rest) {
         if let Some(answer) = head_says(is_begun, line) {
             return answer;
         }
         is_begun = is_begun || is_begin(line);
-        rest = after;
+        rest = after_empty_lines(after, 0).text;
     }
     false
 }

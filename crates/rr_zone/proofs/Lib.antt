@@ -1,5 +1,6 @@
 mod ContentLemmas
 mod CountLemmas
+mod FullLemmas
 mod LawLemmas
 mod LineLemmas
 mod LocalLemmas

@@ -1,12 +1,11 @@
 -- The steps of walks over the parts of a zone, and over the zones of a text.
-use Rattle.std.proofs.Common.{◌≡◌, ℕ, zero, suc, ◌+◌, ◌-◌, ◌<◌, ◌≤◌, Bool, true, false, ◌&&◌, not, List, [], ◌∷◌, ◌++◌, append_assoc, append-nil, length, drop, get_or, map, take, refl, sym, ap, ◌∙◌, arith}
-use Rattle.std.specs.Prelude.{Result, Ok, Err, bytes_eq, if◌then◌else◌, ⊤}
+use Rattle.std.proofs.Common.{◌≡◌, ℕ, zero, suc, ◌+◌, ◌-◌, ◌<◌, ◌≤◌, Bool, true, false, List, [], ◌∷◌, ◌++◌, append_assoc, append-nil, length, drop, get_or, map, take, refl, sym, ap, ◌∙◌, arith}
+use Rattle.std.specs.Prelude.{Result, Ok, Err, if◌then◌else◌, ⊤}
 use Rattle.std.specs.List.{filter, list_all}
 use Rattle.std.proofs.lemmas.List.{at_drop_more, take_all}
 use Rattle.rr_model.specs.Rule.Validity.{is_absent}
 use Rattle.rr_model.specs.Text.Lines.{physical_lines}
 use Rattle.rr_model.specs.Text.RuleValues.{◌>>=◌}
-use Rattle.rr_model.specs.declared.line.Line.{Line}
 use Rattle.rr_model.specs.declared.refusal.Refusal.{Refusal}
 use Rattle.rr_model.specs.declared.refusal.Refusal.TheVariants.{BadLine}
 use Rattle.rr_ical.specs.Components.{open_after}
@@ -17,7 +16,7 @@ use Rattle.rr_events.specs.declared.find.Piece.{Piece}
 use Rattle.rr_ical.specs.declared.open_names.Sought.{Sought}
 use Rattle.rr_ical.specs.declared.open_names.Sought.TheVariants.{Observances}
 use Rattle.rr_events.specs.declared.segment.Segment.{Segment}
-use Rattle.rr_zone.specs.Zones.{ReadZone, are_same, first_number, have_same_texts, observance_on, observances_of, raw_lines_in, some_observance, with_observance, zone_by, zone_of, zone_of_all}
+use Rattle.rr_zone.specs.Zones.{ReadZone, are_same, first_number, observance_on, observances_of, raw_lines_in, some_observance, with_observance, zone_by, zone_of, zone_of_all}
 use Rattle.rr_zone.specs.declared.observance.Observance.{Observance}
 use Rattle.rr_zone.specs.declared.zone.ZoneFault.{ZoneFault}
 use Rattle.rr_zone.specs.declared.zone.ZoneFault.TheVariants.{Differs}
@@ -131,46 +130,6 @@ module _ (zone : List Observance) (parts : List Segment) (i : ℕ) (d : Segment)
 pub all_read : (zone : List Observance) (parts : List Segment) (i : ℕ) (all : ReadZone) → length parts ≤ i → read_from zone (drop i parts) ≡ all → Ok zone ≡ all
 all_read zone parts i all past so_far =
     ap Ok (sym (append-nil zone)) ∙ ap (read_from zone) (sym (drop_past parts i past)) ∙ so_far
-
--- ---- texts line by line
-
-pub same_lengths : (a b : List Line) → have_same_texts a b ≡ true → length a ≡ length b
-same_lengths [] [] e = refl
-same_lengths [] (y ∷ ys) e = absurd (cc)
-same_lengths (x ∷ xs) [] e = absurd (cc)
-same_lengths (x ∷ xs) (y ∷ ys) e = ap suc (same_lengths xs ys (second (bytes_eq x.text y.text) e))
-  where
-    second : (p : Bool) → (p && have_same_texts xs ys) ≡ true → have_same_texts xs ys ≡ true
-    second true q = q
-    second false q = absurd (cc)
-
-module _ (a b : List Line) (i : ℕ) (x y : Line) (all : Bool) (in_a : i < length a) (in_b : i < length b) (is_x : x ≡ get_or a i x) (is_y : y ≡ get_or b i y)
-    (so_far : have_same_texts (drop i a) (drop i b) ≡ all) where
-  both : (bytes_eq x.text y.text && have_same_texts (drop (i + 1) a) (drop (i + 1) b)) ≡ all
-  both =
-      sym (at_read_more (λ xs. have_same_texts xs (drop i b)) a i x in_a is_x
-      ∙ at_read_more (λ ys. have_same_texts (x ∷ drop (i + 1) a) ys) b i y in_b is_y) ∙ so_far
-
-  pub same_line : bytes_eq x.text y.text ≡ true → have_same_texts (drop (i + 1) a) (drop (i + 1) b) ≡ all
-  same_line e = rw e at both
-
-  pub other_line : bytes_eq x.text y.text ≡ false → false ≡ all
-  other_line e = rw e at both
-
-pub other_lengths : (a b : List Line) → (length a ≡ length b → ⊥) → false ≡ have_same_texts a b
-other_lengths a b ne = by (have_same_texts a b) refl
-  where
-    by : (r : Bool) → have_same_texts a b ≡ r → false ≡ r
-    by true e = absurd (ne (same_lengths a b e))
-    by false e = refl
-
-pub not_false : (b : Bool) → false ≡ not b → b ≡ true
-not_false true e = refl
-not_false false e = absurd (cc)
-
-pub all_lines : (a b : List Line) (i : ℕ) (all : Bool) → length a ≡ length b → length a ≤ i → have_same_texts (drop i a) (drop i b) ≡ all → true ≡ all
-all_lines a b i all same past so_far =
-    rw (drop_past a i past, drop_past b i (omega (arith, same))) at so_far
 
 -- ---- the pieces that pass a test
 

@@ -4,6 +4,7 @@
 mod clock;
 mod clocks;
 mod event;
+mod full;
 mod laws;
 mod line;
 mod local;

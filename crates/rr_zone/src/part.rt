@@ -8,7 +8,8 @@ ghost use Rattle.rr_zone.specs.Parts.{IsNumberedPart, begun_name, component_cont
 ghost use Rattle.rr_zone.specs.Zones.{IsNumbered, raw_lines_in};
 
 use crate::event::{EventFacts, event_facts};
-use rr_events::{Piece, Segment, cut_line, piece_lines};
+use crate::full::full_lines;
+use rr_events::{Piece, Segment, cut_line};
 use rr_ical::{is_event, value_of_line};
 use rr_model::{Line, NoMemory};
 use std::alloc::Global;
@@ -59,7 +60,7 @@ fn component_content(alloc: Global, piece: Piece) -> Result<Content, NoMemory>
     if !begins_event(alloc, piece)? {
         return Ok(Content::Zone);
     }
-    let lines = piece_lines(alloc, piece)?;
+    let lines = full_lines(alloc, piece)?;
     Ok(Content::Event(event_facts(alloc, lines.as_slice())?))
 }
 

@@ -6,12 +6,13 @@ ghost use Rattle.rr_events.specs.Own.{value_or_empty};
 ghost use Rattle.rr_events.specs.RawLines.{lines_of};
 ghost use Rattle.rr_events.specs.Segments.{section_in};
 ghost use Rattle.rr_zone.specs.Observances.{IsSoundObservance};
-ghost use Rattle.rr_zone.specs.Zones.{IsNumbered, are_same, first_number, has_name, have_same_texts, observance_on, observances_of, raw_lines_in, some_observance, zone_named, zone_of};
+ghost use Rattle.rr_zone.specs.Zones.{IsNumbered, are_same, has_name, observance_on, observances_of, raw_lines_in, some_observance, zone_named, zone_of};
 
+use crate::full::{first_number, full_lines, have_same_texts};
 use crate::observance::{Observance, read_observance};
-use rr_events::{Piece, Segment, cut_line, piece_lines, segments};
+use rr_events::{Piece, Segment, cut_line, segments};
 use rr_ical::{Sought, is_named, value_of_line};
-use rr_model::{Fault, Line, NoMemory};
+use rr_model::{Fault, NoMemory};
 use std::alloc::Global;
 use std::marker::Model;
 
@@ -73,26 +74,16 @@ impl Zone {
     }
 }
 
-// The number of the first of some lines.
-fn first_number(lines: &[Line]) -> u64
-    ensures { result ≡ first_number lines.now }
-{
-    match lines {
-        [first, ..] => first.number,
-        [] => 0,
-    }
-}
-
 // The observance that a component states, or the number of its first line if it states none that is read.
 fn observance_on(alloc: Global, piece: Piece) -> Result<Result<Observance, ZoneFault>, NoMemory>
     requires { IsNumbered piece }
     ensures value { IfOk result (λ read. read ≡ observance_on (lines_of (raw_lines_in piece.entry))) }
     ensures sound { IfOk result (λ read. IfOk read IsSoundObservance) }
 {
-    let lines = piece_lines(alloc, piece)?;
+    let lines = full_lines(alloc, piece)?;
     match read_observance(alloc, lines.as_slice())? {
         Some(observance) => Ok(Ok(observance)),
-        None => Ok(Err(ZoneFault::Unreadable(first_number(lines.as_slice())))),
+        None => Ok(Err(ZoneFault::Unreadable(first_number(alloc, piece)?))),
     }
 }
 
@@ -130,8 +121,7 @@ fn zone_of(alloc: Global, piece: Piece) -> Result<Result<Zone, ZoneFault>, NoMem
     requires { IsNumbered piece }
     ensures { IfOk result (λ read. read ≡ zone_of (raw_lines_in piece.entry)) }
 {
-    let lines = piece_lines(alloc, piece)?;
-    let number = first_number(lines.as_slice());
+    let number = first_number(alloc, piece)?;
     match segments(alloc, Sought::Observances, piece) {
         Ok(parts) => Ok(some_observance(number, observances_of(alloc, &parts)?)),
         Err(Fault::Refused(_)) => Ok(Err(ZoneFault::Unreadable(number))),
@@ -139,30 +129,16 @@ fn zone_of(alloc: Global, piece: Piece) -> Result<Result<Zone, ZoneFault>, NoMem
     }
 }
 
-// Whether two components have the same texts, line by line.
-fn have_same_texts(a: &[Line], b: &[Line]) -> bool
-    ensures { result ≡ have_same_texts a.now b.now }
-{
-    if a.len() != b.len() {
-        return false;
-    }
-    for i in 0..a.len() {
-        if a[i].text.as_slice() != b[i].text.as_slice() {
-            return false;
-        }
-    }
-    true
-}
-
-// Whether all of some components have the same texts as this one.
-fn are_all_same(alloc: Global, first: &[Line], others: &[Piece]) -> Result<bool, NoMemory>
-    requires { All IsNumbered others.now }
-    ensures { IfOk result (λ same. same ≡ are_same first.now (map raw_lines_in others.now)) }
+// Whether all of some components have the same texts as the first.
+fn are_all_same(alloc: Global, first: Piece, others: &[Piece]) -> Result<bool, NoMemory>
+    requires first { IsNumbered first }
+    requires others { All IsNumbered others.now }
+    ensures { IfOk result (λ same. same
+        ≡ are_same (lines_of (raw_lines_in first.entry)) (map raw_lines_in others.now)) }
 {
     for other in others {
         let other = *other;
-        let lines = piece_lines(alloc, other)?;
-        if !have_same_texts(first, lines.as_slice()) {
+        if !have_same_texts(alloc, first, other)? {
             return Ok(false);
         }
     }
@@ -230,8 +206,7 @@ pub fn zone_in(
         return Ok(Err(ZoneFault::Undefined));
     };
     let first = *first;
-    let lines = piece_lines(alloc, first)?;
-    if !are_all_same(alloc, lines.as_slice(), others)? {
+    if !are_all_same(alloc, first, others)? {
         return Ok(Err(ZoneFault::Differs));
     }
     zone_of(alloc, first)

@@ -16,9 +16,9 @@ told : (c : In_ok-are_all_same) → c.in_ok-are_all_same.field-0
     ≡ are_same (lines_of (raw_lines_in (get_or c.as_slice.result.now 0 none))) (map raw_lines_in (drop 1 c.as_slice.result.now))
 told c =
     let a : c.in_ok-are_all_same.field-0
-    ≡ are_same c.as_slice-2.result.now (map raw_lines_in (take (length c.as_slice.result.now - 1) (drop 1 c.as_slice.result.now))) =
+    ≡ are_same (lines_of (raw_lines_in (get_or c.as_slice.result.now 0 none))) (map raw_lines_in (take (length c.as_slice.result.now - 1) (drop 1 c.as_slice.result.now))) =
     c.in_ok-are_all_same.ensures in
-    rw (c.as_slice-2.ensures, c.in_ok-lines.ensures, all_but_first c.as_slice.result.now) at a
+    rw (all_but_first c.as_slice.result.now) at a
 
 pub returns-then-not-branch : goal.returns-then-not-branch
 returns-then-not-branch c =
