@@ -1,4 +1,5 @@
-use Rattle.std.proofs.Common.{◌≡◌, ◌≤◌, ◌∙◌, true, false, ℤ, pos, ◌+ℤ◌, ◌≤ℤ◌, ◌<ℤ◌, refl, sym, inl, inr, arith, w64, to_z, of_z, to_z-of_z, FitsSigned, rules}
+use Rattle.std.proofs.Common.{◌≡◌, ◌≤◌, ◌∙◌, true, false, ℤ, pos, ◌+ℤ◌, ◌≤ℤ◌, ◌<ℤ◌}
+use Rattle.std.proofs.Common.{refl, sym, inl, inr, arith, w64, to_z, of_z, to_z-of_z, FitsSigned, rules}
 use Rattle.std.proofs.lemmas.Bool.{false≢true}
 use Rattle.std.proofs.lemmas.Int.{by_lt_z, ints}
 use Rattle.rr_model.specs.Moment.Units.{unit_number}
@@ -71,13 +72,17 @@ pub first_in-requires-clause-knows : goal.first_in-requires-clause-knows
 first_in-requires-clause-knows c = rw c.begins_by.ensures.same c.loop-alloc.invariant.1
 
 pub returns-in_err-first_in-clause-same : goal.returns-in_err-first_in-clause-same
-returns-in_err-first_in-clause-same c = same_ruling c.first_in.new.self c.begins_by.new.self c.args.self.now c.first_in.ensures.same (same (goal.at.returns-in_err-first_in-clause-same c).After-begins_by)
+returns-in_err-first_in-clause-same c =
+    same_ruling c.first_in.new.self c.begins_by.new.self c.args.self.now c.first_in.ensures.same
+    (same (goal.at.returns-in_err-first_in-clause-same c).After-begins_by)
 
 pub returns-in_err-first_in-clause-kept : goal.returns-in_err-first_in-clause-kept
 returns-in_err-first_in-clause-kept c n t e = c.first_in.ensures.kept n t (c.loop-alloc.invariant.2 n t e)
 
 pub returns-in-Some-clause-same : goal.returns-in-Some-clause-same
-returns-in-Some-clause-same c = same_ruling c.first_in.new.self c.begins_by.new.self c.args.self.now c.first_in.ensures.same (same (goal.at.returns-in-Some-clause-same c).After-begins_by)
+returns-in-Some-clause-same c =
+    same_ruling c.first_in.new.self c.begins_by.new.self c.args.self.now c.first_in.ensures.same
+    (same (goal.at.returns-in-Some-clause-same c).After-begins_by)
 
 pub returns-in-Some-clause-kept : goal.returns-in-Some-clause-kept
 returns-in-Some-clause-kept c n t e = c.first_in.ensures.kept n t (c.loop-alloc.invariant.2 n t e)
@@ -142,4 +147,5 @@ returns-clause-found c =
     let known = rw c.self.view_is at c.self.invariant in
     let u : ℤ = to_z w64 c.loop-alloc.unit-bits in
     let w = rw (to_z-of_z c.ranges.from) at c.loop-alloc.invariant.3 in
-    walked_all r.rule r.kind r.start known.freq known.valid.valid.interval_low c.args.from u c.args.to w (after (goal.at.returns-clause-found c).After-begins_by c.loop-alloc-test.false)
+    walked_all r.rule r.kind r.start known.freq known.valid.valid.interval_low c.args.from u c.args.to w
+    (after (goal.at.returns-clause-found c).After-begins_by c.loop-alloc-test.false)
