@@ -1,5 +1,5 @@
 -- A list of allowed days, found one after another.
-use Rattle.std.proofs.Common.{◌≡◌, ℕ, false, List, [], ◌∷◌, ◌++◌, ℤ, pos, ◌+ℤ◌, ◌≤ℤ◌, ◌<ℤ◌, inl, inr, sym, ◌∙◌, subst, arith}
+use Rattle.std.proofs.Common.{◌≡◌, ℕ, false, List, [], ◌∷◌, ◌++◌, ℤ, pos, ◌+◌, ◌+ℤ◌, ◌≤◌, ◌≤ℤ◌, ◌<ℤ◌, inl, inr, refl, sym, ◌∙◌, subst, arith}
 use Rattle.std.specs.Prelude.{◌⊎◌, Option, Some, None, IsTrue, int_lt, true}
 use Rattle.std.proofs.lemmas.Bool.{false≢true}
 use Rattle.std.proofs.lemmas.Int.{ints, by_lt_z}
@@ -74,3 +74,21 @@ module _ (f : Filling) (year : MaskedYear) (from end : ℤ) (begun : year.first 
     pub one_allowed : (bit : ℕ) (day : ℤ) → day ≡ year.first +ℤ pos bit → IsFirstBit year.mask.bits i j (Some bit) → IsFirstAllowed f from end (Some day)
     one_allowed bit day is found =
         first_allowed (Some day) (one_marked year from end end i j at till bit day (omega (arith, ints)) not_over is found)
+
+-- a list of the days before bit i becomes that of those before bit j
+module _ (f : Filling) (year : MaskedYear) (tells : TellsYear f year) (first : ℤ) (i j : ℕ) (low : first ≤ℤ (year.first +ℤ pos i))
+    (over : (year.first +ℤ pos j) ≤ℤ year.next) (days : List ℤ) (listed : ListAllowed f first (year.first +ℤ pos i) days) where
+  -- if no bit between is set
+  pub listed_rest : i ≤ j → IsFirstBit year.mask.bits i j None → ListAllowed f first (year.first +ℤ pos j) days
+  listed_rest up none =
+      listed_all f first (year.first +ℤ pos j) (year.first +ℤ pos i) days (omega (arith, ints, up))
+      (none_allowed f year (year.first +ℤ pos i) (year.first +ℤ pos j) (omega (arith, ints)) over tells i j refl refl none) listed
+
+  -- and of those up to the first one that is set, with that one
+  pub listed_bit : (bit : ℕ) (more : List ℤ) → IsFirstBit year.mask.bits i j (Some bit) → more ≡ days ++ (year.first +ℤ pos bit) ∷ []
+      → ListAllowed f first (year.first +ℤ pos (bit + 1)) more
+  listed_bit bit more found e =
+      listed_more f first (year.first +ℤ pos j) (year.first +ℤ pos i) (year.first +ℤ pos bit) (year.first +ℤ pos (bit + 1)) days more low
+      (omega (arith, ints))
+      (one_allowed f year (year.first +ℤ pos i) (year.first +ℤ pos j) (omega (arith, ints)) over tells i j refl refl bit (year.first +ℤ pos bit) refl found)
+      e listed

@@ -1,14 +1,16 @@
 -- Bits of words: what a shift, a write and one test more tell of them.
 use Rattle.std.proofs.Common.{◌≡◌, ◌≢◌, ◌∙◌, sym, ap, refl, ℕ, ◌+◌, ◌-◌, ◌*◌, ◌/◌, ◌%◌, ◌^◌, ◌<◌, ◌≤◌, Bool, true, false, ◌&&◌, List, [], ◌∷◌, replicate, length, get_or, inl, inr, w64, arith}
 use Rattle.std.specs.Prelude.{◌==◌, bit_or, nat_lt, slice_set, Some, None}
+use Rattle.std.specs.Prelude.{bit_and}
 use Rattle.std.specs.Int.{bit_at, trailing_zeros}
 use Rattle.std.proofs.Math.Nat.{div-div-eq-div-mul, div-le_self}
-use Rattle.std.proofs.lemmas.Bool.{cases_eq, cases_lt}
+use Rattle.std.proofs.lemmas.Bool.{and_parts, cases_eq, cases_lt, le-ltb, lt-ltb, ltb-true}
 use Rattle.std.proofs.lemmas.Bool.Decides.{nat_tests}
 use Rattle.std.proofs.lemmas.List.{get_or-replicate, get_or-set_other, get_or-set_same}
 use Rattle.std.proofs.lemmas.Nat.{pow-add}
-use Rattle.std.proofs.lemmas.Nat.Bits.{bit_at-trailing_zeros, bit_at-zero, bit_at_above, bit_at_set_same, bit_at_set_other}
-use Rattle.rr_expand.specs.Years.{IsFirstBit, is_bit_set}
+use Rattle.std.proofs.lemmas.Nat.Bits.{bit_at-lt, bit_at-trailing_zeros, bit_at-zero, bit_at_above, bit_at_and, bit_at_ones, bit_at_ones_above}
+use Rattle.std.proofs.lemmas.Nat.Bits.{bit_at_set_same, bit_at_set_other, ones_shr}
+use Rattle.rr_expand.specs.Years.{AreBitsBetween, IsFirstBit, is_bit_set}
 
 -- the bits of `n >> j` are those of n from j on
 pub bit_at_shr : (n j i : ℕ) → bit_at (n / 2 ^ j) i ≡ bit_at n (j + i)
@@ -48,6 +50,66 @@ module _ (words : List ℕ) (from i : ℕ) (word : i ≡ from / 64) where
         at_rest (from + t) low high ∙ ap (λ j. bit_at rest_of_word j == 1) back ∙ ap (λ b. b == 1) lowest.1,
         (λ k least below. at_rest k least (omega arith) ∙ ap (λ b. b == 1) (lowest.2 (k - from) (omega arith))),
       )
+
+  -- what is left of the word up to another bit
+  pub bits_of_word : (end : ℕ) → from < end → end ≤ (from / 64 + 1) * 64
+      → AreBitsBetween words from end (bit_and rest_of_word ((2 ^ 64 - 1) / 2 ^ (64 - (end - from))))
+  bits_of_word end some within k =
+      let mask : (2 ^ 64 - 1) / 2 ^ (64 - (end - from)) ≡ 2 ^ (end - from) - 1 =
+      ones_shr 64 (64 - (end - from)) (omega arith) ∙ ap (λ m. 2 ^ m - 1) (let e : 64 - (64 - (end - from)) ≡ end - from = omega arith in e) in
+      let both = bit_at_and rest_of_word (2 ^ (end - from) - 1) k in
+      rw mask (elim (cases_lt (from + k) end) [
+        | inl l ↦
+            (let same : bit_at (bit_and rest_of_word (2 ^ (end - from) - 1)) k ≡ bit_at rest_of_word k =
+            omega (arith, both, bit_at_ones (end - from) k (omega arith), bit_at-lt rest_of_word k) in
+            let back : from + k - from ≡ k = omega arith in
+            rw (same, lt-ltb (from + k) end l)
+            (sym (at_rest (from + k) (omega arith) (omega arith) ∙ ap (λ j. bit_at rest_of_word j == 1) back)))
+        | inr g ↦
+            (let none : bit_at (bit_and rest_of_word (2 ^ (end - from) - 1)) k ≡ 0 =
+            omega (arith, both, bit_at_ones_above (end - from) k (omega arith)) in
+            rw (none, le-ltb (from + k) end g) refl)
+      ])
+
+-- the bits of a word, taken from the lowest on
+module _ (words : List ℕ) (from end rest : ℕ) (bits : AreBitsBetween words from end rest) where
+  at_bit : (k : ℕ) → from ≤ k → k < end → is_bit_set words k ≡ (bit_at rest (k - from) == 1)
+  at_bit k low high =
+      let on : from + (k - from) ≡ k = omega arith in
+      sym (bits (k - from) ∙ rw (on, lt-ltb k end high) refl)
+
+  -- if nothing is left no bit is set
+  pub no_bit_between : rest ≡ 0 → IsFirstBit words from end None
+  no_bit_between none k low high = at_bit k low high ∙ ap (λ b. b == 1) (ap (λ n. bit_at n (k - from)) none ∙ bit_at-zero (k - from))
+
+  module _ (some : 0 < rest) (fits : rest < 2 ^ 64) where
+    abbrev lowest : ℕ
+    lowest = trailing_zeros w64 rest
+
+    set_there : (nat_lt (from + lowest) end ≡ true) × (is_bit_set words (from + lowest) ≡ true)
+    set_there = and_parts (nat_lt (from + lowest) end) (is_bit_set words (from + lowest))
+        (sym (bits lowest) ∙ ap (λ b. b == 1) (bit_at-trailing_zeros w64 rest some fits).1)
+
+    -- the lowest bit that is left is the first
+    pub first_bit_between : IsFirstBit words from end (Some (from + lowest))
+    first_bit_between = (
+      omega arith,
+      ltb-true (from + lowest) end set_there.0,
+      set_there.1,
+      λ k least below. at_bit k least (omega (arith, below, ltb-true (from + lowest) end set_there.0))
+          ∙ ap (λ b. b == 1) ((bit_at-trailing_zeros w64 rest some fits).2 (k - from) (omega arith)),
+    )
+
+    -- and what is left without it and the bits below are those from the next one on
+    pub bits_after : AreBitsBetween words (from + lowest + 1) end (rest / 2 ^ lowest / 2 ^ 1)
+    bits_after k =
+        let on : from + (lowest + (1 + k)) ≡ from + lowest + 1 + k = omega arith in
+        let same : bit_at (rest / 2 ^ lowest / 2 ^ 1) k ≡ bit_at rest (lowest + (1 + k)) =
+        bit_at_shr (rest / 2 ^ lowest) 1 k ∙ bit_at_shr rest lowest (1 + k) in
+        rw same (bits (lowest + (1 + k)) ∙ ap (λ n. nat_lt n end && is_bit_set words n) on)
+
+    pub less_after : rest / 2 ^ lowest / 2 ^ 1 < rest
+    less_after = let half = div-le_self rest (2 ^ lowest) in omega arith
 
 module _ (words : List ℕ) (bit i : ℕ) (word : i ≡ bit / 64) (within : i < length words) where
   -- the words after `words[i] |= 1 << (bit % 64)`

@@ -1,5 +1,6 @@
 -- The days of a year that the date parts of a rule allow, as bits, and the key of a year that tells them.
 use Rattle.std.specs.Prelude.{◌≡◌, ℕ, ◌+◌, ◌/◌, ◌%◌, ◌^◌, ◌<◌, ◌≤◌, ◌==◌, Bool, true, false, ◌&&◌, if◌then◌else◌, List, get_or, nat_lt, Option, Some, None, ℤ, pos, ◌+ℤ◌, ◌-ℤ◌, ◌≤ℤ◌, ◌<ℤ◌}
+use Rattle.std.specs.Int.{bit_at}
 use Rattle.rr_model.specs.Calendar.{days_in_year, first_day_of_year, is_leap, kind_of_year}
 use Rattle.rr_model.specs.Rule.Candidate.{date_parts_hold}
 use Rattle.rr_model.specs.Rule.Filled.{filled_rule}
@@ -49,6 +50,10 @@ abbrev pub IsFirstBit : List ℕ → ℕ → ℕ → Option ℕ → Type 0
 IsFirstBit words from end None = (k : ℕ) → from ≤ k → k < end → is_bit_set words k ≡ false
 IsFirstBit words from end (Some bit) =
     (from ≤ bit) × (bit < end) × (is_bit_set words bit ≡ true) × ((k : ℕ) → from ≤ k → k < bit → is_bit_set words k ≡ false)
+
+-- the bits of a word are those of the days from `from` on and before `end`, from the lowest bit on
+abbrev pub AreBitsBetween : List ℕ → ℕ → ℕ → ℕ → Type 0
+AreBitsBetween words from end word = (k : ℕ) → (bit_at word k == 1) ≡ (nat_lt (from + k) end && is_bit_set words (from + k))
 
 -- What a year's mask depends on: its kind, of which there are 14, and, if BYWEEKNO is present, whether the years before and
 -- after it are leap, since a week at either end of a year can belong to the year beside it.

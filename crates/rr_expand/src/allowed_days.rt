@@ -1,5 +1,5 @@
 // The days that the date parts of a rule allow, found by masks of years.
-ghost use Rattle.std.specs.Prelude.{◌≡◌, IfOk, OnOk, [], false, pos, true, ◌+ℤ◌, ◌≤ℤ◌, ◌<ℤ◌, ℤ};
+ghost use Rattle.std.specs.Prelude.{◌≡◌, ◌+◌, ◌*◌, ◌/◌, ◌<◌, ◌≤◌, IfOk, OnOk, [], false, pos, true, ◌+ℤ◌, ◌≤ℤ◌, ◌<ℤ◌, ℤ};
 ghost use Rattle.rr_model.specs.Calendar.{IsDayWithin, first_day_of_year};
 ghost use Rattle.rr_expand.specs.Years.{AllowsEveryDay, Filling, IsFirstAllowed, IsYearMask, allows_day, filling_of};
 ghost use Rattle.rr_expand.specs.KeptMasks.{AreAllowedDays, AreMasks, AreKeptMasks, IsFirstMarked, IsMaskedYear, ListsOn, TellDays, has_date_part};
@@ -231,9 +231,32 @@ impl MaskedYear {
     {
         let last = (end - self.first) as u16;
         let mut bit = (from - self.first) as u16;
-        while let Some(found) = self.mask.first_from(bit, last) {
-            days.push(self.first + i64::from(found))?;
-            bit = found + 1;
+        while bit < last {
+            let next = ((bit / 64 + 1) * 64).min(last);
+            self.list_word(bit, next, days)?;
+            bit = next;
+        }
+        Ok(())
+    }
+
+    // The same of days, counted in the year from 0, that have their bits in one word.
+    fn list_word(&self, from: u16, end: u16, days: &mut Vec<i64>) -> Result<(), NoMemory>
+        requires year { IsMaskedYear self.now }
+        requires some { from < end }
+        requires word { end ≤ (from / 64 + 1) * 64 }
+        requires not_over { (self.now.first +ℤ pos end) ≤ℤ self.now.next }
+        ensures { OnOk result (ListsOn self.now (self.now.first +ℤ pos from)
+            (self.now.first +ℤ pos end) days.old.items days.new.items) }
+    {
+        days.reserve(usize::from(end - from))?;
+        let mut rest = self.mask.bits_between(from, end);
+        let mut day = self.first + i64::from(from);
+        while rest != 0 {
+            let zeros = rest.trailing_zeros();
+            day += i64::from(zeros);
+            days.push_reserved(day);
+            day += 1;
+            rest = rest >> zeros >> 1;
         }
         Ok(())
     }

@@ -2,7 +2,7 @@
 ghost use Rattle.std.specs.Prelude.{◌≡◌, ◌≢◌, ℕ, ◌+◌, ◌*◌, ◌/◌, ◌<◌, ◌≤◌, ◌+ℤ◌, pos, true, if◌then◌else◌};
 ghost use Rattle.rr_model.specs.Calendar.{IsDayWithin, first_day_of_year, is_leap};
 ghost use Rattle.rr_expand.specs.LeftOut.{MarksWeekdays};
-ghost use Rattle.rr_expand.specs.Years.{IsFirstBit, IsYearMask, MarksAllowed, filling_of, is_bit_set, mask_key};
+ghost use Rattle.rr_expand.specs.Years.{AreBitsBetween, IsFirstBit, IsYearMask, MarksAllowed, filling_of, is_bit_set, mask_key};
 
 use crate::left_out::{day_after, days_on, gaps, lists_weekday, names_weekdays_alone};
 use rr_cal::{Date, Day, day_of, days_in_year, year_kind};
@@ -45,6 +45,17 @@ impl YearMask {
         } else {
             Some(from + rest.trailing_zeros() as u16)
         }
+    }
+
+    // The bits of the days from one on and before another, which have theirs in one word, from the lowest bit on.
+    pub(crate) fn bits_between(&self, from: u16, end: u16) -> u64
+        requires some { from < end }
+        requires word { end ≤ (from / 64 + 1) * 64 }
+        requires within { from < 384 }
+        ensures { AreBitsBetween self.now.bits from end result }
+    {
+        let rest = self.bits[usize::from(from / 64)] >> (from % 64);
+        rest & (u64::MAX >> (64 - (end - from)))
     }
 
     // Sets the bit of a day, counted in the year from 0.

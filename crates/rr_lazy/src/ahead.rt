@@ -18,6 +18,7 @@ pub(crate) struct LazyPart<L: Lazy + Drop> {
 }
 
 // Asks a part for its first day up to `to`, unless it is known.
+#[inline(always)]
 pub(crate) fn fill<L: Lazy>(
     alloc: Global,
     sets: &mut SetTable,
@@ -42,6 +43,7 @@ pub(crate) fn fill<L: Lazy>(
 }
 
 // The seconds that two parts gave for a day; none if neither gave it. If one alone gave it, its own number stands.
+#[inline(always)]
 pub(crate) fn on_day(
     alloc: Global,
     sets: &mut SetTable,
@@ -72,6 +74,7 @@ pub(crate) fn of_day(ahead: Option<OccupiedDay>, day: i64) -> Option<OccupiedDay
 }
 
 // The seconds of a day that two parts gave.
+#[inline(never)]
 fn union_of(
     alloc: Global,
     sets: &mut SetTable,

@@ -54,6 +54,7 @@ impl Lazy for DatesLazy {
 
     ghost knows_more = { λ s old new more k. tt };
 
+    #[inline(always)]
     fn next(
         &mut self,
         alloc: Global,

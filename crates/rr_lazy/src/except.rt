@@ -14,11 +14,15 @@ ghost use Rattle.rr_lazy.specs.Next.{IsUnasked, KnowsIfBoth, with_set};
 use crate::ahead::{LazyPart, fill, of_day};
 use crate::position::position_past;
 use crate::{Lazy, OccupiedDay};
-use rr_model::{FIRST_DAY, NoMemory};
+use rr_model::{FIRST_DAY, MAX_DAY, NoMemory};
 use rr_shapes::SetTable;
 use std::alloc::Global;
 
-/// The occurrences of one part that another lacks. The other part is asked only up to the days of the first one.
+// The last day up to which a part is asked.
+const LAST_ASKED: i64 = MAX_DAY - 1_000;
+
+/// The occurrences of one part that another lacks. The other part is asked for at most a week more than the days of the first
+/// one.
 #[derive(Drop)]
 pub struct Except<A: Lazy + Drop, B: Lazy + Drop> {
     a: LazyPart<A>,
@@ -164,7 +168,8 @@ fn left_of<B: Lazy>(
     }
 }
 
-// Passes over the days of a part before one: what it gave then is not before that day, or it has none up to it.
+// Passes over the days of a part before one: what it gave then is not before that day, or it has none up to it. It is asked
+// for the days of a week more: a day that it gives serves for all days before it.
 fn pass_to<B: Lazy>(
     alloc: Global,
     sets: &mut SetTable,
@@ -185,8 +190,9 @@ fn pass_to<B: Lazy>(
     ensures some { OnOk result (ForSome ahead.new (λ f. day ≤ℤ f.day)) }
     ensures none { OnOk result (ForNone ahead.new (day <ℤ B.position lazy.new)) }
 {
+    let last = (day + 7).min(LAST_ASKED);
     'days: loop {
-        fill(alloc, sets, lazy, ahead, day)?;
+        fill(alloc, sets, lazy, ahead, last)?;
         let Some(found) = *ahead else {
             return Ok(());
         };

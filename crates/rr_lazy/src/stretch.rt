@@ -44,6 +44,7 @@ pub(crate) fn dates_on(kind: Kind, dates: &[i64], day: i64) -> bool
 }
 
 // The seconds of the dates on a day.
+#[inline(never)]
 pub(crate) fn seconds_on(
     alloc: Global,
     kind: Kind,

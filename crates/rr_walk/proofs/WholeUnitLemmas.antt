@@ -1,9 +1,10 @@
 -- A unit of days and its number.
 use Rattle.std.proofs.Common.{◌≡◌, ℕ, ◌≤◌, true, ℤ, pos, negsuc, nat_abs, ◌+ℤ◌, ◌-ℤ◌, ◌≤ℤ◌, ◌<ℤ◌, refl, arith, w64, to_z, of_z}
-use Rattle.std.proofs.lemmas.Int.{ints}
+use Rattle.std.specs.Prelude.{◌↔◌, IsTrue, int_le}
+use Rattle.std.proofs.lemmas.Int.{by_lt_z, ints}
 use Rattle.rr_model.specs.Calendar.{IsDayWithin}
 use Rattle.rr_model.specs.Moment.{day_part}
-use Rattle.rr_model.specs.Moment.Units.{is_whole_days, unit_number}
+use Rattle.rr_model.specs.Moment.Units.{is_whole_days, unit_number, unit_start}
 use Rattle.rr_model.specs.Moment.Years.{IsInYears}
 use Rattle.rr_model.specs.declared.kind.Kind.{Kind}
 use Rattle.rr_model.specs.declared.kind.Kind.TheVariants.{Days}
@@ -13,7 +14,7 @@ use Rattle.rr_cal.proofs.StretchLemmas.{units_are_stretches}
 use Rattle.rr_expand.specs.Expansion.{IsUnitNear}
 use Rattle.rr_walk.specs.Ruling.{IsWholeUnit}
 use Rattle.rr_walk.specs.declared.day_rule.WholeUnit.{WholeUnit}
-use Rattle.rr_walk.proofs.WalkLemmas.{start_near, unit_bounds, unit_near_is, unit_some}
+use Rattle.rr_walk.proofs.WalkLemmas.{begun, later, start_near, unit_bounds, unit_near_is, unit_some}
 
 module _ (freq : Freq) (w : ℕ) (unit : WholeUnit) (coarse : is_whole_days freq ≡ true) (u : IsWholeUnit freq w unit) where
   -- it has a day, and at most 366
@@ -53,6 +54,20 @@ module _ (freq : Freq) (w : ℕ) (unit : WholeUnit) (coarse : is_whole_days freq
 
   pub number_is : w ≤ 255 → to_z w64 (of_z w64 unit.number) ≡ unit.number
   number_is low = let b = number_bounds low in omega (arith, ints, b.0, b.1)
+
+-- a test of two numbers tells what their order does
+pub by_test : (a b : ℤ) (P : Type 0) → (a ≤ℤ b) ↔ P → IsTrue (int_le a b) ↔ P
+by_test a b P h = (λ t. h.0 (omega (arith, ints, t)), λ p. (let l = h.1 p in grind (arith, ints)))
+
+-- a unit begins on a day or before if it is not after the day's
+pub begins_by : (freq : Freq) (w : ℕ) (u d first : ℤ) → is_whole_days freq ≡ true → first ≡ unit_start freq w Days u
+    → IsTrue (int_le first d) ↔ (u ≤ℤ unit_number freq w Days d)
+begins_by freq w u d first coarse e =
+    let P : Type 0 = u ≤ℤ unit_number freq w Days d in
+    by_test first d P (
+      (λ l. by_lt_z {P = P} (unit_number freq w Days d) u (λ m. absurd (omega (arith, ints, later freq w coarse u d m, e, l))) (λ g. g)),
+      (λ l. omega (arith, ints, begun freq w coarse u d l, e)),
+    )
 
 -- the unit of a day, and that of a start, are near
 pub day_near : (freq : Freq) (w : ℕ) (d u : ℤ) → is_whole_days freq ≡ true → w ≤ 255 → IsDayWithin 0 d → u ≡ unit_number freq w Days d → IsUnitNear u

@@ -1,5 +1,5 @@
 // A rule of whole days, walked over its candidate days.
-ghost use Rattle.std.specs.Prelude.{◌≡◌, ◌<◌, IfOk, IsTrue, length, true, pos, ◌≤ℤ◌, ◌+ℤ◌};
+ghost use Rattle.std.specs.Prelude.{◌≡◌, ◌<◌, ◌↔◌, IfOk, IsTrue, length, true, pos, ◌≤ℤ◌, ◌+ℤ◌, ℕ};
 ghost use Rattle.rr_model.specs.Calendar.{IsDayWithin};
 ghost use Rattle.rr_model.specs.Moment.{day_part};
 ghost use Rattle.rr_model.specs.Moment.Units.{is_whole_days, unit_number, unit_start};
@@ -317,6 +317,22 @@ impl DayRule {
         }
     }
 
+    // Whether a unit begins on a day or before. No date is computed for the unit entered last and for the one after it.
+    pub(crate) fn begins_by(&mut self, unit: i64, day: i64) -> bool
+        requires near { IsDayWithin 0 day }
+        ensures same { self.new ≡ self.old }
+        ensures begun { IsTrue result
+            ↔ unit ≤ℤ unit_number self.old.rule.freq self.old.rule.week_start Days day }
+    {
+        if unit == self.unit.number {
+            self.unit.first <= day
+        } else if unit == self.unit.number + 1 {
+            self.unit.next <= day
+        } else {
+            unit <= self.last_unit(day)
+        }
+    }
+
     // The unit of the day up to which is looked, which is that of the call before for most calls.
     pub(crate) fn last_unit(&mut self, to: i64) -> i64
         requires near { IsDayWithin 0 to }
@@ -333,6 +349,21 @@ impl DayRule {
     }
 }
 
+// The unit of a number. No date is computed for the one after a unit that is known.
+pub(crate) fn unit_beside(freq: Freq, week_start: u8, known: WholeUnit, number: i64) -> WholeUnit
+    requires freq { IsTrue (is_whole_days freq) }
+    requires known { IsWholeUnit freq week_start known }
+    requires near { IsDayWithin 1000 (unit_start freq week_start Days number) }
+    ensures number { result.number ≡ number }
+    ensures unit { IsWholeUnit freq week_start result }
+{
+    if number == known.number + 1 {
+        unit_from(freq, number, known.next)
+    } else {
+        whole_unit(freq, week_start, number)
+    }
+}
+
 // The unit of a number.
 pub(crate) fn whole_unit(freq: Freq, week_start: u8, number: i64) -> WholeUnit
     requires freq { IsTrue (is_whole_days freq) }
@@ -341,6 +372,16 @@ pub(crate) fn whole_unit(freq: Freq, week_start: u8, number: i64) -> WholeUnit
     ensures unit { IsWholeUnit freq week_start result }
 {
     let first = first_day_of_unit(freq, week_start, number);
+    unit_from(freq, number, first)
+}
+
+// The unit of a number and a first day.
+fn unit_from(freq: Freq, number: i64, first: i64) -> WholeUnit
+    requires freq { IsTrue (is_whole_days freq) }
+    requires near { IsDayWithin 1000 first }
+    ensures number { result.number ≡ number }
+    ensures unit { (w : ℕ) → first ≡ unit_start freq w Days number → IsWholeUnit freq w result }
+{
     WholeUnit {
         number,
         first,

@@ -1,6 +1,7 @@
 // A rule of whole days with BYSETPOS, walked unit by unit (RFC 5545, section 3.3.10, BYSETPOS).
-ghost use Rattle.std.specs.Prelude.{◌≡◌, ◌⊎◌, Some, None, IfOk, false, pos, ◌+ℤ◌, ◌≤ℤ◌, ◌<ℤ◌};
+ghost use Rattle.std.specs.Prelude.{◌≡◌, ◌⊎◌, ◌<◌, ◌≤◌, Some, None, IfOk, false, get_or, int_lt, length, pos, ◌+ℤ◌, ◌≤ℤ◌, ◌<ℤ◌, ℕ};
 ghost use Rattle.rr_model.specs.Calendar.{IsDayWithin};
+ghost use Rattle.rr_model.specs.Rising.{Rises};
 ghost use Rattle.rr_model.specs.Rule.Validity.{is_absent};
 ghost use Rattle.rr_model.specs.declared.kind.Kind.TheVariants.{Days};
 ghost use Rattle.rr_shapes.specs.Tables.{Extends};
@@ -9,7 +10,7 @@ ghost use Rattle.rr_walk.specs.Ruling.{AreUnitDays, IsCandidateAt, IsFittingUnit
 ghost use Rattle.rr_walk.specs.Steps.{tree_of_ruling};
 ghost use Rattle.rr_walk.specs.Walk.{AreSecondsOn, IsFirstInIn, IsFirstOfIn, IsFirstUpToIn, IsFirstWithTimes, IsOnDayIn};
 
-use crate::day_rule::{DayRule, END_OF_DAY, day_of_times, whole_unit};
+use crate::day_rule::{DayRule, END_OF_DAY, day_of_times, unit_beside};
 use crate::set_positions::{next_rank, times_at_positions};
 use rr_lazy::OccupiedDay;
 use rr_model::NoMemory;
@@ -35,10 +36,9 @@ impl DayRule {
         ensures kept { Extends sets.old sets.new }
         ensures found { IfOk result (IsFirstUpToIn sets.new (tree_of_ruling self.old) from to) }
     {
-        let last = self.last_unit(to);
         let step = i64::from(self.rule.interval);
         let mut unit = self.first_unit(from);
-        while unit <= last {
+        while self.begins_by(unit, to) {
             match self.first_in(alloc, sets, unit, from)? {
                 None => {}
                 Some(found) => return Ok(up_to(found, to)),
@@ -69,7 +69,7 @@ impl DayRule {
             (IsFirstInIn sets.new (tree_of_ruling self.old) self.old.rule unit from) }
     {
         if !(self.is_held && self.unit.number == unit) {
-            self.unit = whole_unit(self.rule.freq, self.rule.week_start, unit);
+            self.unit = unit_beside(self.rule.freq, self.rule.week_start, self.unit, unit);
             self.is_held = false;
             let count = (self.unit.next - self.unit.first) as u16;
             self.allowed.list(self.unit.first, count, &mut self.days)?;
@@ -92,7 +92,7 @@ impl DayRule {
         if times.len() != 1 {
             return None;
         }
-        let rank = days.partition_point(|day| *day < from);
+        let rank = count_before(days, from);
         let found = next_rank(&self.rule.by_set_pos, 1, days.len(), rank)?;
         if self.first_second(days[found]) > times[0] {
             return None;
@@ -115,7 +115,7 @@ impl DayRule {
     {
         let count = days.len();
         let each = self.times.as_slice().len();
-        let mut rank = days.partition_point(|day| *day < from);
+        let mut rank = count_before(days, from);
         while let Some(found) = next_rank(&self.rule.by_set_pos, each, count, rank) {
             let occupied = self.on_day(alloc, sets, days[found], found, count)?;
             if occupied.is_some() {
@@ -162,6 +162,24 @@ impl DayRule {
         let chosen = times_at_positions(alloc, &self.times, rank, count, positions)?;
         TimeSet::cut(alloc, &chosen, from, END_OF_DAY)
     }
+}
+
+// How many of the days lie before one. That none or all do is seen at once.
+fn count_before(days: &[i64], from: i64) -> usize
+    requires rising { Rises int_lt days.now }
+    ensures bound { result ≤ length days.now }
+    ensures before { (k : ℕ) → k < result → get_or days.now k (pos 0) <ℤ from }
+    ensures not_before { (k : ℕ) → result ≤ k → k < length days.now
+        → from ≤ℤ get_or days.now k (pos 0) }
+{
+    let count = days.len();
+    if count == 0 || from <= days[0] {
+        return 0;
+    }
+    if days[count - 1] < from {
+        return count;
+    }
+    days.partition_point(|day| *day < from)
 }
 
 // An occupied day, if it is not after a day.

@@ -1,14 +1,11 @@
-use Rattle.std.proofs.Common.{◌≡◌, ◌≤◌, true, false, ℤ, pos, ◌≤ℤ◌, ◌∷◌, [], refl, sym, ◌∙◌, arith, rules, get_or, length, w64, to_z, of_z, to_z-of_z, FitsSigned}
-use Rattle.std.specs.Prelude.{Some, int_lt, nat_lt}
+use Rattle.std.proofs.Common.{◌≡◌, ◌≤◌, ℤ, pos, ◌≤ℤ◌, ◌∷◌, [], refl, sym, ◌∙◌, arith, rules, get_or, length, w64, to_z, of_z, to_z-of_z, FitsSigned}
+use Rattle.std.specs.Prelude.{Some, nat_lt}
 use Rattle.std.proofs.lemmas.Int.{ints}
-use Rattle.std.proofs.lemmas.List.Sorted.{IsPartitionPoint-from_clause}
 use Rattle.std.proofs.lemmas.Option.{same_Some}
 use Rattle.rr_model.specs.Rising.Sets.{IsSetOf}
 use Rattle.rr_model.specs.Rule.DaysAndTimes.{IsCandidateTime}
 use Rattle.rr_model.specs.Sets.Tree.{chosen_of}
-use Rattle.rr_model.specs.declared.kind.Kind.TheVariants.{Days}
 use Rattle.rr_model.proofs.RisingSetLemmas.{one_list_of_seconds}
-use Rattle.rr_lazy.proofs.StretchLemmas.{parted}
 use Rattle.rr_walk.specs.Ruling.{Ruling}
 use Rattle.rr_walk.specs.SetPositions.{IsNextRank}
 use Rattle.rr_walk.proofs.AloneRankLemmas.{on_chosen}
@@ -28,7 +25,7 @@ returns c shown times is set =
     let known = c.self.invariant in
     let days = c.args.days.now in
     let from = c.args.from in
-    let rank = c.partition_point-rank.result in
+    let rank = c.count_before-rank.result in
     let found = c.in_ok-found.found in
     let x : ℤ = get_or days found (pos 0) in
     let fits : FitsSigned w64 x = search rules in
@@ -42,11 +39,9 @@ returns c shown times is set =
     let one : length times ≡ 1 = rw same at c.if-times-ne1.false in
     let late : c.first_second.result ≤ get_or times 0 0 = rw same at c.if-first_second-times.false in
     let at : IsNextRank i.rule.by_set_pos (length times) (length days) rank (Some found) = rw one c.in_ok-found.ensures in
-    let point = IsPartitionPoint-from_clause (λ d. int_lt d from) days rank c.partition_point-rank.ensures.partitioned
-    (parted Days days from unit_days.1.rises) (λ a r q k. search rules) in
-    let before = passed_parted (chosen_of i.rule i.kind i.start) days from rank
-    (λ k l. (let e : int_lt (get_or days k (pos 0)) from ≡ true = point.0 k (pos 0) (omega arith) l in grind (arith, ints))) in
-    let after : from ≤ℤ x = (let e : int_lt (get_or days found (pos 0)) from ≡ false = point.1 found (pos 0) at.0 at.1 in grind (arith, ints)) in
+    let counted = to_z-of_z c.ranges.from in
+    let before = passed_parted (chosen_of i.rule i.kind i.start) days from rank (rw counted at c.count_before-rank.ensures.before) in
+    let after : from ≤ℤ x = (rw counted at c.count_before-rank.ensures.not_before) found at.0 at.1 in
     let passed = passed_next r known.freq stands times own days unit_days from rank before found at in
     let first = rw (sym c.self.view_is) at c.first_second.ensures in
     let on = on_chosen r known.freq stands times own one (get_or times 0 0) refl days unit_days found at.1 at.2 day (to_z-of_z fits) c.first_second.result

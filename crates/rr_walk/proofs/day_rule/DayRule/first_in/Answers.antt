@@ -16,16 +16,16 @@ use Rattle.rr_walk.proofs.WholeUnitLemmas.{count_is, few_days, first_is, next_is
 use Rattle.rr_walk.proofs.day_rule.DayRule.first_in.Goals as goal
 use Rattle.rr_walk.proofs.day_rule.DayRule.first_in.Goals.{then-not-self-unit+in_ok-list, else-not-self-unit, then-self, else-self}
 
-pub whole_unit-self-inside-requires-clause-near : goal.whole_unit-self-inside-requires-clause-near
-whole_unit-self-inside-requires-clause-near c =
+pub unit_beside-self-inside-requires-clause-near : goal.unit_beside-self-inside-requires-clause-near
+unit_beside-self-inside-requires-clause-near c =
     let near = rw (sym c.self.view_is) at c.requires.first in
     rw (to_z-of_z c.ranges.unit) (omega (arith, ints, near.0, near.1))
 
 pub overflow_sub-count : goal.overflow_sub-count
 overflow_sub-count c =
     let i = c.self.inside in
-    let made = c.whole_unit-self-inside.result in
-    let at = c.whole_unit-self-inside.ensures.unit in
+    let made = c.unit_beside-self-inside.result in
+    let at = c.unit_beside-self-inside.ensures.unit in
     let coarse = c.self.invariant.freq in
     let first = first_is i.rule.freq i.rule.week_start made coarse at in
     let next = next_is i.rule.freq i.rule.week_start made coarse at in
@@ -36,8 +36,8 @@ overflow_sub-count c =
 pub overflow_cast-count : goal.overflow_cast-count
 overflow_cast-count c =
     let i = c.self.inside in
-    let made = c.whole_unit-self-inside.result in
-    let at = c.whole_unit-self-inside.ensures.unit in
+    let made = c.unit_beside-self-inside.result in
+    let at = c.unit_beside-self-inside.ensures.unit in
     let coarse = c.self.invariant.freq in
     let first = first_is i.rule.freq i.rule.week_start made coarse at in
     let next = next_is i.rule.freq i.rule.week_start made coarse at in
@@ -48,9 +48,9 @@ overflow_cast-count c =
 pub list-requires-clause-first : goal.list-requires-clause-first
 list-requires-clause-first c =
     let i = c.self.inside in
-    let made = c.whole_unit-self-inside.result in
-    let at = c.whole_unit-self-inside.ensures.unit in
-    let number : made.number ≡ c.args.unit = c.whole_unit-self-inside.ensures.number ∙ to_z-of_z c.ranges.unit in
+    let made = c.unit_beside-self-inside.result in
+    let at = c.unit_beside-self-inside.ensures.unit in
+    let number : made.number ≡ c.args.unit = c.unit_beside-self-inside.ensures.number ∙ to_z-of_z c.ranges.unit in
     let begins = rw number at at.of_first in
     let first = first_is i.rule.freq i.rule.week_start made c.self.invariant.freq at in
     let near = rw (sym c.self.view_is) at c.requires.first in
@@ -59,9 +59,9 @@ list-requires-clause-first c =
 pub list-requires-clause-last : goal.list-requires-clause-last
 list-requires-clause-last c =
     let i = c.self.inside in
-    let made = c.whole_unit-self-inside.result in
-    let at = c.whole_unit-self-inside.ensures.unit in
-    let number : made.number ≡ c.args.unit = c.whole_unit-self-inside.ensures.number ∙ to_z-of_z c.ranges.unit in
+    let made = c.unit_beside-self-inside.result in
+    let at = c.unit_beside-self-inside.ensures.unit in
+    let number : made.number ≡ c.args.unit = c.unit_beside-self-inside.ensures.number ∙ to_z-of_z c.ranges.unit in
     let ends = rw number at at.of_next in
     let first = first_is i.rule.freq i.rule.week_start made c.self.invariant.freq at in
     let count = count_is i.rule.freq i.rule.week_start made c.self.invariant.freq at in
@@ -72,8 +72,8 @@ pub invariant_of-self : goal.invariant_of-self
 invariant_of-self c =
     let i = c.self.inside in
     let r : Ruling = record { rule = i.rule; kind = i.kind; start = i.start; kept = i.number ∷ [] } in
-    entered_unrolled r i.start_day i.start_second i.times i.allowed c.list.new.self i.own_unit i.last i.unit c.whole_unit-self-inside.result i.is_held
-    i.days.items c.list.new.days.items c.self.invariant c.list.ensures.same c.whole_unit-self-inside.ensures.unit
+    entered_unrolled r i.start_day i.start_second i.times i.allowed c.list.new.self i.own_unit i.last i.unit c.unit_beside-self-inside.result i.is_held
+    i.days.items c.list.new.days.items c.self.invariant c.list.ensures.same c.unit_beside-self-inside.ensures.unit
 
 -- the unit's days are held
 held : (c : goal.After-as_slice) → (let s = c.if-not-self-unit.self-inside in
@@ -84,9 +84,9 @@ held c = elim c.if-not-self-unit.branch [
   | then-not-self-unit+in_ok-list w ↦ (
       let i = c.self.inside in
       let r : Ruling = record { rule = i.rule; kind = i.kind; start = i.start; kept = i.number ∷ [] } in
-      let made = w.whole_unit-self-inside.result in
-      let at = w.whole_unit-self-inside.ensures.unit in
-      let number : made.number ≡ c.args.unit = w.whole_unit-self-inside.ensures.number ∙ to_z-of_z c.ranges.unit in
+      let made = w.unit_beside-self-inside.result in
+      let at = w.unit_beside-self-inside.ensures.unit in
+      let number : made.number ≡ c.args.unit = w.unit_beside-self-inside.ensures.number ∙ to_z-of_z c.ranges.unit in
       let begins = rw number at at.of_first in
       let many : ℕ = nat_abs (to_z w64 (of_z w64 (to_z w64 (of_z w64 made.next) -ℤ to_z w64 (of_z w64 made.first)))) in
       let count : made.first +ℤ pos many ≡ made.next = count_is i.rule.freq i.rule.week_start made c.self.invariant.freq at in

@@ -1,38 +1,24 @@
-use Rattle.std.proofs.Common.{◌≡◌, true, false, ℤ, pos, ◌≤ℤ◌, ◌<ℤ◌, ◌∷◌, [], refl, sym, subst, arith, rules, get_or, length, w64, to_z, of_z, to_z-of_z, FitsSigned}
-use Rattle.std.specs.Prelude.{int_lt, nat_lt}
+use Rattle.std.proofs.Common.{ℤ, pos, ◌≤ℤ◌, ◌∷◌, [], refl, sym, subst, arith, rules, get_or, length, w64, to_z, of_z, to_z-of_z, FitsSigned}
+use Rattle.std.specs.Prelude.{nat_lt}
 use Rattle.std.proofs.lemmas.Int.{ints}
-use Rattle.std.proofs.lemmas.List.Sorted.{IsPartitionPoint-from_clause}
 use Rattle.rr_model.specs.Rising.Sets.{IsSetOf}
 use Rattle.rr_model.specs.Rule.DaysAndTimes.{IsCandidateTime}
 use Rattle.rr_model.specs.Sets.Tree.{chosen_of}
-use Rattle.rr_model.specs.declared.kind.Kind.TheVariants.{Days}
 use Rattle.rr_model.proofs.RisingSetLemmas.{length-le_bound}
-use Rattle.rr_lazy.proofs.StretchLemmas.{parted}
 use Rattle.rr_walk.specs.Ruling.{Ruling}
 use Rattle.rr_walk.proofs.DayListLemmas.{passed_empty}
 use Rattle.rr_walk.proofs.SetPositionLemmas.{candidate_at}
 use Rattle.rr_walk.proofs.PositionDayLemmas.{few_days, first_on_day, none_on_day, passed_next, passed_parted, passed_rest}
 use Rattle.rr_walk.proofs.day_rule.DayRule.first_of.Goals as goal
 
-before_is : (d from : ℤ) → int_lt d from ≡ true → d <ℤ from
-before_is d from e = omega (arith, ints, e)
-
-not_before : (d from : ℤ) → int_lt d from ≡ false → from ≤ℤ d
-not_before d from e = omega (arith, ints, e)
-
 pub loop-found-init : goal.loop-found-init
 loop-found-init c =
-    let days = c.args.days.now in
-    let from = c.args.from in
     let r = c.args.self.now in
-    let rank = c.partition_point-rank.result in
-    let point = IsPartitionPoint-from_clause (λ d. int_lt d from) days rank c.partition_point-rank.ensures.partitioned
-    (parted Days days from c.requires.days.1.rises) (λ a r q k. search rules) in
-    rw (to_z-of_z c.ranges.from) (
+    let from = to_z-of_z c.ranges.from in
+    rw from (
       (λ n t e. e),
-      passed_parted (chosen_of r.rule r.kind r.start) days from rank
-          (λ k l. before_is (get_or days k (pos 0)) from (point.0 k (pos 0) (omega arith) l)),
-      (λ k g l. not_before (get_or days k (pos 0)) from (point.1 k (pos 0) g l)),
+      passed_parted (chosen_of r.rule r.kind r.start) c.args.days.now c.args.from c.count_before-rank.result (rw from at c.count_before-rank.ensures.before),
+      rw from at c.count_before-rank.ensures.not_before,
     )
 
 pub next_rank-requires-clause-each : goal.next_rank-requires-clause-each
