@@ -1,5 +1,5 @@
 // Numbers and moments that a command takes, each within its limits.
-ghost use Rattle.std.specs.Prelude.{◌≡◌, ◌≤◌};
+ghost use Rattle.std.specs.Prelude.{◌≡◌, ◌≤◌, max, min};
 ghost use Rattle.rr_model.specs.Moment.Years.{IsInYears};
 ghost use Rattle.rr_answer.specs.Command.{moment_in, number_between};
 
@@ -133,7 +133,16 @@ impl Duration {
         })
     }
 
-    /// The duration in seconds.
+    /// The duration of these seconds, or the nearest to them that is one.
+    pub fn nearest(seconds: u32) -> Duration
+        ensures { result ≡ min (max seconds 1) MAX_DURATION }
+    {
+        Duration {
+            seconds: seconds.max(1).min(MAX_DURATION as u32),
+        }
+    }
+
+    /// The duration as a number of seconds.
     pub fn get(self) -> u32
         ensures value { result ≡ self }
         ensures some { 1 ≤ self }

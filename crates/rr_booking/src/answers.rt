@@ -16,7 +16,9 @@ ghost use Rattle.rr_booking.specs.Parsed.{all_in, booking_in, other_in};
 use crate::request::{Booking, Other};
 use crate::tally::Tally;
 use crate::words::{USAGE, parse};
-use rr_answer::{Duration, Inquiry, Outcome, Reply, Status, outcome_beside, outcome_of_fault, read_folded};
+use rr_answer::{
+    Duration, Inquiry, Outcome, Reply, Status, outcome_beside, outcome_of_fault, read_folded,
+};
 use rr_days::Folded;
 use rr_model::{NoMemory, Side};
 use std::alloc::Global;
@@ -42,7 +44,12 @@ fn reply_of(outcome: Outcome) -> Reply
 }
 
 // What is said of one of the others beside the days of the candidate.
-fn said_of(alloc: Global, duration: Duration, days: &Folded, other: &Other) -> Result<Outcome, NoMemory>
+fn said_of(
+    alloc: Global,
+    duration: Duration,
+    days: &Folded,
+    other: &Other,
+) -> Result<Outcome, NoMemory>
     requires years { IsFromYearOneOn (sketch days.now) }
     requires short { (sketch days.now).period ≤ MAX_CYCLE_DAYS }
     requires near { (sketch days.now).settled ≤ℤ pos 40_000_000 }
@@ -52,7 +59,7 @@ fn said_of(alloc: Global, duration: Duration, days: &Folded, other: &Other) -> R
 {
     let inquiry = Inquiry::Clash {
         duration_a: duration,
-        duration_b: other.duration,
+        duration_b: Duration::nearest(other.duration),
     };
     outcome_beside(alloc, inquiry, days, other.operand, other.text)
 }

@@ -25,7 +25,7 @@ fn other_with<'a>(
 {
     if size <= bytes.len() as u64 {
         Some(Other {
-            duration,
+            duration: duration.get(),
             operand,
             text: &bytes[..size as usize],
         })
