@@ -147,9 +147,11 @@ BESIDE_VERDICTS = [(ANSWER + "Clashes", "IsClashSaid"), (ANSWER + "Combined", "I
 BESIDE_EQUAL = BESIDE_VERDICTS + [
     (MODEL + "Sets.Verdict", "IsWithinVerdict"),
     (MODEL + "Sets.Verdict", "IsDisjointVerdict"),
-    (ANSWER + "Answer", "IsSaidOfOne"),
+    (ANSWER + "Answer", "AreDaysSaid"),
+    (ANSWER + "Answer", "IsSeriesSaid"),
     (ANSWER + "Answer", "IsDrillSaid"),
-    (ANSWER + "Command", "with_one"),
+    (ANSWER + "Command", "with_days"),
+    (ANSWER + "Command", "with_series"),
     (ANSWER + "Command", "translate_command"),
     (ANSWER + "Command", "list_command"),
     (ANSWER + "Command", "drill_command"),

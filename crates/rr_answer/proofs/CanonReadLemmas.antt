@@ -1,5 +1,5 @@
 -- What is read and folded of a canonical text.
-use Rattle.std.proofs.Common.{◌≡◌, ℕ, ◌<◌, ◌≤◌, List, length, refl, sym, subst}
+use Rattle.std.proofs.Common.{ℕ, ◌<◌, ◌≤◌, ℤ, List, length, Option, refl}
 use Rattle.std.specs.Prelude.{Result, Ok, Err, IfErr}
 use Rattle.rr_algebra.specs.Stated.{HasNoDescriptor, IsDescriptor}
 use Rattle.rr_fold.specs.Judged.{all_limits}
@@ -11,27 +11,27 @@ use Rattle.rr_model.specs.declared.refusal.Fault.TheVariants.{NoMemory, Refused}
 use Rattle.rr_model.specs.declared.refusal.Refusal.{Refusal}
 use Rattle.rr_model.specs.declared.refusal.Refusal.TheVariants.{NotCanonical, TooLong}
 use Rattle.rr_model.specs.declared.sketch.Sketch.{Sketch}
-use Rattle.rr_answer.specs.Command.{Operand}
 use Rattle.rr_answer.specs.Folding.{IsFoldedFrom}
 use Rattle.rr_answer.specs.Judgement.{IsFault}
-use Rattle.rr_answer.specs.OperandReading.{IsDescriptorRead, IsStatedIn, IsSubjectRead}
+use Rattle.rr_answer.specs.OperandReading.{IsDescriptorRead, IsTextRead}
 use Rattle.rr_answer.specs.Subjects.{Subject, of_sketch}
 use Rattle.rr_answer.specs.declared.command.Language.{Language}
-use Rattle.rr_answer.specs.declared.command.Language.TheVariants.{Canon}
+use Rattle.rr_answer.specs.declared.command.Language.TheVariants.{Days}
+use Rattle.rr_answer.specs.declared.command.DayLanguage.TheVariants.{Canon}
 use Rattle.rr_answer.proofs.DescriptorLemmas.{from_year_one}
 use Rattle.rr_answer.proofs.JudgementLemmas.{refused_text}
 use Rattle.rr_answer.proofs.OperandLemmas.{read_within, too_long}
 
-module _ (operand : Operand) (bytes : List ℕ) where
-  -- a text that is too long is refused, whatever its language
-  pub long_fault : MAX_INPUT < length bytes → IsFault all_limits (IsSubjectRead operand bytes) (Refused TooLong)
-  long_fault many = refused_text all_limits (IsSubjectRead operand bytes) TooLong (too_long operand bytes many)
+-- a text that is too long is refused, whatever its language
+pub long_fault : (language : Language) (offset : Option ℤ) (bytes : List ℕ) → MAX_INPUT < length bytes
+    → IsFault all_limits (IsTextRead language offset bytes) (Refused TooLong)
+long_fault language offset bytes many = refused_text all_limits (IsTextRead language offset bytes) TooLong (too_long language offset bytes many)
 
-module _ (operand : Operand) (bytes : List ℕ) (canon : operand.language ≡ Canon) (few : length bytes ≤ MAX_INPUT) where
-  read_so : (r : Result Subject Refusal) → IsDescriptorRead (without_mark bytes) r → IsSubjectRead operand bytes r
-  read_so r h = read_within operand bytes few r (subst (λ (l : Language). IsStatedIn l operand.offset bytes r) (sym canon) h)
+module _ (offset : Option ℤ) (bytes : List ℕ) (few : length bytes ≤ MAX_INPUT) where
+  read_so : (r : Result Subject Refusal) → IsDescriptorRead (without_mark bytes) r → IsTextRead (Days Canon) offset bytes r
+  read_so r h = read_within (Days Canon) offset bytes few r h
 
-  pub descriptor_folds : (s : Sketch) → IsDescriptor (without_mark bytes) s → IsFoldedFrom (IsSubjectRead operand bytes) s
+  pub descriptor_folds : (s : Sketch) → IsDescriptor (without_mark bytes) s → IsFoldedFrom (IsTextRead (Days Canon) offset bytes) s
   descriptor_folds s p = record {
     subject = of_sketch s;
     judged = record { read = Ok (of_sketch s); is_read = read_so (Ok (of_sketch s)) p; is_judged = (refl, refl) };
@@ -46,7 +46,7 @@ module _ (operand : Operand) (bytes : List ℕ) (canon : operand.language ≡ Ca
 
   pub descriptor_fault :
       {X : Type 0} (result : Result X Fault) → RefusedExactlyWhere (HasNoDescriptor (without_mark bytes)) NotCanonical result
-      → IfErr result (IsFault all_limits (IsSubjectRead operand bytes))
+      → IfErr result (IsFault all_limits (IsTextRead (Days Canon) offset bytes))
   descriptor_fault (Ok x) h = tt
-  descriptor_fault (Err (Refused refusal)) h = refused_text all_limits (IsSubjectRead operand bytes) refusal (read_so (Err refusal) h)
+  descriptor_fault (Err (Refused refusal)) h = refused_text all_limits (IsTextRead (Days Canon) offset bytes) refusal (read_so (Err refusal) h)
   descriptor_fault (Err NoMemory) h = tt

@@ -56,25 +56,24 @@ use Rattle.rr_vcal.proofs.ValidReadLemmas.{answer-valid}
 use Rattle.rr_next.specs.Window.{from_on, number_from}
 use Rattle.rr_next.proofs.WindowLemmas.{not_before_from}
 use Rattle.rr_model.proofs.WholeLemmas.{floor_mod_below, floor_whole}
-use Rattle.rr_skip.specs.declared.series.SkipSeries.{SkipSeries}
-use Rattle.rr_skip.specs.Reading.{reads_rscale}
 use Rattle.rr_zone.specs.Local.{in_local_time}
 use Rattle.rr_answer.specs.Answer.{IsListSaid}
-use Rattle.rr_answer.specs.Command.{Operand}
+use Rattle.rr_answer.specs.Command.{SeriesOperand}
 use Rattle.rr_answer.specs.Judgement.{IsJudged, list_limits}
 use Rattle.rr_answer.specs.Listing.{ListsFirst}
-use Rattle.rr_answer.specs.OperandReading.{IsStatedIn, IsSubjectRead, graph_as_series, reads_zoned_rrule, reads_zoned_rscale, vcal_as_series}
+use Rattle.rr_answer.specs.OperandReading.{IsSeriesRead, IsTextRead, graph_as_series, reads_zoned_rrule, series_in, vcal_as_series}
 use Rattle.rr_answer.specs.Said.{Answer, IsRefusedOr, IsSaidOfSeries, IsSaidUnder}
-use Rattle.rr_answer.specs.Subjects.{Reading, Subject, as_skipping, as_subject, of_series, of_sketch, of_skipping}
+use Rattle.rr_answer.specs.Subjects.{Reading, Subject, as_subject, of_series, of_sketch, of_skipping}
 use Rattle.rr_answer.specs.Windows.{IsFromSaid}
 use Rattle.rr_answer.specs.FirstDate.{FirstDateLists, first_date}
-use Rattle.rr_answer.specs.declared.command.Language.{Language}
-use Rattle.rr_answer.specs.declared.command.Language.TheVariants.{Rrule, ZonedRrule, Vcal, Graph, List as list, Canon, Rscale, ZonedRscale}
+use Rattle.rr_answer.specs.declared.command.Language.TheVariants as language
+use Rattle.rr_answer.specs.declared.command.SeriesLanguage.{SeriesLanguage}
+use Rattle.rr_answer.specs.declared.command.SeriesLanguage.TheVariants.{Rrule, ZonedRrule, Vcal, Graph, List as list}
 use Rattle.rr_answer.specs.declared.status.Status.TheVariants.{Yes}
 use Rattle.rr_model.specs.declared.verdict.Side.TheVariants.{A}
 use Rattle.rr_answer.proofs.FirstLemmas.{listed_is_one}
 use Rattle.rr_answer.proofs.GraphEventLemmas.{extended_date-in_years, extended_time-below, reads_graph-valid}
-use Rattle.rr_answer.proofs.OperandLemmas.{subject_read_is_one}
+use Rattle.rr_answer.proofs.OperandLemmas.{text_read_is_one}
 use Rattle.rr_answer.proofs.WindowSaidLemmas.{lists_same}
 
 -- ---- lists
@@ -237,12 +236,8 @@ of_read : (read : Result Series Refusal) (series : Series) → Ok (of_series ser
 of_read (Ok other) series h = cc
 of_read (Err refusal) series h = absurd (cc)
 
-no_skipped_series : (read : Result SkipSeries Refusal) (series : Series) → Ok (of_series series) ≡ as_skipping read → ⊥
-no_skipped_series (Ok other) series h = absurd (cc)
-no_skipped_series (Err refusal) series h = absurd (cc)
-
-stated_from_year_one : (language : Language) (offset : Option ℤ) (bytes : List ℕ) (series : Series) → IsStatedIn language offset bytes (Ok (of_series series))
-    → OccurFromYearOne (Occurs series)
+stated_from_year_one : (l : SeriesLanguage) (offset : Option ℤ) (bytes : List ℕ) (series : Series)
+    → Ok (of_series series) ≡ as_subject (series_in l offset bytes) → OccurFromYearOne (Occurs series)
 stated_from_year_one Rrule offset bytes series h k t o =
     occurs_from_year_one series k t (reads_calendar-valid offset bytes series (of_read (reads_calendar offset bytes) series h)) o
 stated_from_year_one ZonedRrule offset bytes series h k t o =
@@ -259,9 +254,6 @@ stated_from_year_one Graph offset bytes series h k t o =
     let valid = reads_graph-valid offset bytes read.0 read.1 in
     event_from_year_one read.0 valid k t
     ((graph_counterpart read.0 k t valid).1 (subst (λ (s : Series). Occurs s k t) (sym (ok_same (series_of_graph read.0) series read.2)) o))
-stated_from_year_one Canon offset bytes series h k t o = absurd h
-stated_from_year_one Rscale offset bytes series h k t o = absurd (no_skipped_series (reads_rscale offset bytes) series h)
-stated_from_year_one ZonedRscale offset bytes series h k t o = absurd (no_skipped_series (reads_zoned_rscale bytes) series h)
 
 -- ---- from the first date on
 
@@ -301,24 +293,24 @@ of_said : (limits : Limits) (reads : Reading) (says : Subject → Answer → Typ
     → IsSaidOfRead reads says bytes
 of_said limits reads says bytes h = of_judged limits reads says bytes h.is_judged.read h.judged h.is_judged.is_read h.is_judged.is_judged h.is_said
 
-module _ (operand : Operand) (text : List ℕ) (n : ℕ) (x y : List ℕ) where
-  series_years : (series : Series) → IsSubjectRead operand text (Ok (of_series series)) → OccurFromYearOne (Occurs series)
-  unfolding IsSubjectRead
+module _ (operand : SeriesOperand) (text : List ℕ) (n : ℕ) (x y : List ℕ) where
+  series_years : (series : Series) → IsSeriesRead operand text (Ok (of_series series)) → OccurFromYearOne (Occurs series)
+  unfolding IsTextRead
   series_years series (inl h) = (let e = h.1 in absurd (cc))
   series_years series (inr h) = stated_from_year_one operand.language operand.offset text series h.1
 
-  said_of : (subject : Subject) → IsSubjectRead operand text (Ok subject) → IsFromSaid first_date n subject (done x)
+  said_of : (subject : Subject) → IsSeriesRead operand text (Ok subject) → IsFromSaid first_date n subject (done x)
       → IsSaidOfSeries (IsListSaid n) subject (done y) → x ≡ y
   said_of (of_series series) read p q = from_first_date_lists series n x y (series_years series read) p.1 q.1
   said_of (of_sketch sketch) read p q = absurd q
   said_of (of_skipping series) read p q = absurd q
 
-  both_said : IsSaidUnder A all_limits (IsSubjectRead operand text) (IsFromSaid first_date n) (done x)
-      → IsSaidUnder A list_limits (IsSubjectRead operand text) (IsSaidOfSeries (IsListSaid n)) (done y) → x ≡ y
+  both_said : IsSaidUnder A all_limits (IsSeriesRead operand text) (IsFromSaid first_date n) (done x)
+      → IsSaidUnder A list_limits (IsSeriesRead operand text) (IsSaidOfSeries (IsListSaid n)) (done y) → x ≡ y
   both_said p q =
-      let from = of_said all_limits (IsSubjectRead operand text) (IsFromSaid first_date n) x p in
-      let listed = of_said list_limits (IsSubjectRead operand text) (IsSaidOfSeries (IsListSaid n)) y q in
-      let one = subject_read_is_one operand text (Ok from.subject) (Ok listed.subject) from.is_read listed.is_read in
+      let from = of_said all_limits (IsSeriesRead operand text) (IsFromSaid first_date n) x p in
+      let listed = of_said list_limits (IsSeriesRead operand text) (IsSaidOfSeries (IsListSaid n)) y q in
+      let one = text_read_is_one (language.Series operand.language) operand.offset text (Ok from.subject) (Ok listed.subject) from.is_read listed.is_read in
       let same : from.subject ≡ listed.subject = cc in
       said_of listed.subject listed.is_read (subst (λ (s : Subject). IsFromSaid first_date n s (done x)) same from.said) listed.said
 

@@ -6,7 +6,7 @@ use Rattle.rr_model.specs.declared.verdict.Verdict.TheVariants.{Yes}
 use Rattle.rr_answer.specs.Answer.{IsPairAnswer}
 use Rattle.rr_answer.specs.Command.{Operand}
 use Rattle.rr_answer.specs.Judgement.{IsJudgedRead}
-use Rattle.rr_answer.specs.OperandReading.{HaveOneText, IsSubjectRead}
+use Rattle.rr_answer.specs.OperandReading.{HaveOneText, IsSubjectRead, IsTextRead}
 use Rattle.rr_answer.specs.Said.{answer_of_verdict}
 use Rattle.rr_answer.specs.Subjects.{Subject}
 use Rattle.rr_answer.specs.declared.command.Inquiry.TheVariants.{Verdict as Ask}
@@ -14,11 +14,9 @@ use Rattle.rr_model.specs.declared.question.Question.TheVariants.{Equal}
 
 module _ (a b : Operand) (text_a text_b : List ℕ) (one : HaveOneText a text_a b text_b) where
   read_again : (r : Result Subject Refusal) → IsSubjectRead a text_a r → IsSubjectRead b text_b r
-  unfolding IsSubjectRead
   read_again r h =
-      subst (λ l. IsSubjectRead (record { language = l; offset = b.offset; name = b.name }) text_b r) one.language
-      (subst (λ o. IsSubjectRead (record { language = a.language; offset = o; name = b.name }) text_b r) one.offset
-      (subst (λ t. IsSubjectRead (record { language = a.language; offset = a.offset; name = b.name }) t r) one.text h))
+      subst (λ l. IsTextRead l b.offset text_b r) one.language
+      (subst (λ o. IsTextRead a.language o text_b r) one.offset (subst (λ t. IsTextRead a.language a.offset t r) one.text h))
 
   -- a set is equal to itself
   pub said_of_one_text :

@@ -22,11 +22,15 @@ use Rattle.rr_graph.proofs.OccurrenceLemmas.{counterpart_has_occurrences as grap
 use Rattle.rr_text.proofs.StepLemmas.{and_then_ok}
 use Rattle.rr_vcal.proofs.OccurrenceLemmas.{counterpart_has_occurrences as vcal_counterpart}
 use Rattle.rr_vcal.proofs.ValidReadLemmas.{answer-valid}
-use Rattle.rr_answer.specs.OperandReading.{IsDescriptorRead, IsStatedIn, IsSubjectRead, reads_zoned_rrule, reads_zoned_rscale}
+use Rattle.rr_answer.specs.OperandReading.{AreDaysStatedIn, IsDescriptorRead, IsStatedIn, IsTextRead, reads_zoned_rrule, reads_zoned_rscale, series_in}
 use Rattle.rr_answer.specs.OwnSense.{OccursAsStated, OwnSense}
 use Rattle.rr_answer.specs.Subjects.{OccursIn, Subject, as_skipping, as_subject, of_series, of_sketch, of_skipping}
 use Rattle.rr_answer.specs.declared.command.Language.{Language}
-use Rattle.rr_answer.specs.declared.command.Language.TheVariants.{Rrule, ZonedRrule, Vcal, Graph, List as list, Canon, Rscale, ZonedRscale}
+use Rattle.rr_answer.specs.declared.command.Language.TheVariants as language
+use Rattle.rr_answer.specs.declared.command.DayLanguage.{DayLanguage}
+use Rattle.rr_answer.specs.declared.command.DayLanguage.TheVariants.{Canon, Rscale, ZonedRscale}
+use Rattle.rr_answer.specs.declared.command.SeriesLanguage.{SeriesLanguage}
+use Rattle.rr_answer.specs.declared.command.SeriesLanguage.TheVariants.{Rrule, ZonedRrule, Vcal, Graph, List as list}
 use Rattle.rr_answer.proofs.DescriptorLemmas.{descriptor_is_one}
 use Rattle.rr_algebra.specs.Stated.{IsDescriptor}
 use Rattle.rr_model.specs.Sets.Sketch.{StandsIn}
@@ -106,23 +110,33 @@ skipping_stated (Ok series) subject h =
     let same : of_skipping series ≡ subject = cc in
     subst (λ (x : Subject). HaveEqualOccurrences (OccursIn x) (OccursInRead (Ok series))) same (skipping_read (Ok series) series refl)
 
-stated_in :
-    (language : Language) (offset : Option ℤ) (bytes : List ℕ) (subject : Subject) → IsStatedIn language offset bytes (Ok subject)
-    → HaveEqualOccurrences (OccursIn subject) (OccursAsStated language offset bytes)
-stated_in Rrule offset bytes subject h = series_stated (reads_calendar offset bytes) subject h
-stated_in ZonedRrule offset bytes subject h = series_stated (reads_zoned_rrule bytes) subject h
-stated_in list offset bytes subject h = series_stated (reads_list bytes) subject h
-stated_in Vcal offset bytes subject h =
+series_in_own_sense :
+    (l : SeriesLanguage) (offset : Option ℤ) (bytes : List ℕ) (subject : Subject) → Ok subject ≡ as_subject (series_in l offset bytes)
+    → HaveEqualOccurrences (OccursIn subject) (OccursAsStated (language.Series l) offset bytes)
+series_in_own_sense Rrule offset bytes subject h = series_stated (reads_calendar offset bytes) subject h
+series_in_own_sense ZonedRrule offset bytes subject h = series_stated (reads_zoned_rrule bytes) subject h
+series_in_own_sense list offset bytes subject h = series_stated (reads_list bytes) subject h
+series_in_own_sense Vcal offset bytes subject h =
     stated_occurs VSeries (reads_vcal offset bytes) series_of_vseries OccursInVseries
     (λ v p k t. vcal_counterpart v k t (answer-valid offset bytes (Ok v) p)) subject h
-stated_in Graph offset bytes subject h =
+series_in_own_sense Graph offset bytes subject h =
     stated_occurs GraphEvent (reads_graph offset bytes) series_of_graph IsGraphOccurrence
     (λ e p k t. graph_counterpart e k t (reads_graph-valid offset bytes e p)) subject h
-stated_in Canon offset bytes subject h = descriptor_stated (without_mark bytes) subject h
-stated_in Rscale offset bytes subject h = skipping_stated (reads_rscale offset bytes) subject h
-stated_in ZonedRscale offset bytes subject h = skipping_stated (reads_zoned_rscale bytes) subject h
+
+days_in_own_sense :
+    (l : DayLanguage) (offset : Option ℤ) (bytes : List ℕ) (subject : Subject) → AreDaysStatedIn l offset bytes (Ok subject)
+    → HaveEqualOccurrences (OccursIn subject) (OccursAsStated (language.Days l) offset bytes)
+days_in_own_sense Canon offset bytes subject h = descriptor_stated (without_mark bytes) subject h
+days_in_own_sense Rscale offset bytes subject h = skipping_stated (reads_rscale offset bytes) subject h
+days_in_own_sense ZonedRscale offset bytes subject h = skipping_stated (reads_zoned_rscale bytes) subject h
+
+stated_in :
+    (l : Language) (offset : Option ℤ) (bytes : List ℕ) (subject : Subject) → IsStatedIn l offset bytes (Ok subject)
+    → HaveEqualOccurrences (OccursIn subject) (OccursAsStated l offset bytes)
+stated_in (language.Series l) offset bytes subject h = series_in_own_sense l offset bytes subject h
+stated_in (language.Days l) offset bytes subject h = days_in_own_sense l offset bytes subject h
 
 pub own_sense : OwnSense
-unfolding IsSubjectRead
+unfolding IsTextRead
 own_sense operand bytes subject (inl h) = absurd (cc)
 own_sense operand bytes subject (inr h) = stated_in operand.language operand.offset bytes subject h.1

@@ -6,8 +6,6 @@ use Rattle.rr_fold.specs.Judged.{all_limits}
 use Rattle.rr_model.specs.Series.Cycle.{series_cycle}
 use Rattle.rr_model.specs.Series.FirstRefusal.{IsLimitRefusal, IsRefusalOr}
 use Rattle.rr_model.specs.Series.Soundness.{first_refusal}
-use Rattle.rr_rule_parts.specs.Calendars.{reads_calendar}
-use Rattle.rr_ical.specs.Lists.{reads_list}
 use Rattle.rr_model.specs.declared.limits.TheConstants.{MAX_CYCLE_DAYS}
 use Rattle.rr_model.specs.declared.refusal.Refusal.{Refusal}
 use Rattle.rr_model.specs.declared.rule.Series.{Series}
@@ -19,10 +17,12 @@ use Rattle.rr_skip.specs.declared.series.SkipSeries.{SkipSeries}
 use Rattle.rr_answer.specs.Command.{Operand}
 use Rattle.rr_answer.specs.Folding.{IsFoldedFrom}
 use Rattle.rr_answer.specs.Judgement.{IsJudged}
-use Rattle.rr_answer.specs.OperandReading.{IsStatedIn, IsSubjectRead, graph_as_series, reads_zoned_rrule, reads_zoned_rscale, vcal_as_series}
+use Rattle.rr_answer.specs.OperandReading.{AreDaysStatedIn, IsStatedIn, IsSubjectRead, IsTextRead, reads_zoned_rscale, series_in}
 use Rattle.rr_answer.specs.Subjects.{IsSubjectRefusal, Subject, as_skipping, as_subject, cycle_of, of_series, of_sketch, of_skipping}
 use Rattle.rr_answer.specs.declared.command.Language.{Language}
-use Rattle.rr_answer.specs.declared.command.Language.TheVariants.{Rrule, ZonedRrule, Vcal, Graph, List as list, Canon, Rscale, ZonedRscale}
+use Rattle.rr_answer.specs.declared.command.Language.TheVariants as language
+use Rattle.rr_answer.specs.declared.command.DayLanguage.{DayLanguage}
+use Rattle.rr_answer.specs.declared.command.DayLanguage.TheVariants.{Canon, Rscale, ZonedRscale}
 
 -- ---- by limits
 
@@ -55,20 +55,20 @@ no_skipped_sketch (Ok series) sketch h = absurd (cc)
 no_skipped_sketch (Err refusal) sketch h = absurd (cc)
 
 -- a sketch that is stated is that of a canonical text, which repeats within the limit
-stated_short : (language : Language) (offset : Option ℤ) (bytes : List ℕ) (sketch : Sketch) → IsStatedIn language offset bytes (Ok (of_sketch sketch))
+days_short : (l : DayLanguage) (offset : Option ℤ) (bytes : List ℕ) (sketch : Sketch) → AreDaysStatedIn l offset bytes (Ok (of_sketch sketch))
     → sketch.period ≤ MAX_CYCLE_DAYS
-stated_short Rrule offset bytes sketch h = absurd (no_sketch (reads_calendar offset bytes) sketch h)
-stated_short ZonedRrule offset bytes sketch h = absurd (no_sketch (reads_zoned_rrule bytes) sketch h)
-stated_short list offset bytes sketch h = absurd (no_sketch (reads_list bytes) sketch h)
-stated_short Vcal offset bytes sketch h = absurd (no_sketch (vcal_as_series offset bytes) sketch h)
-stated_short Graph offset bytes sketch h = absurd (no_sketch (graph_as_series offset bytes) sketch h)
-stated_short Canon offset bytes sketch h = h.readable.within.period
-stated_short Rscale offset bytes sketch h = absurd (no_skipped_sketch (reads_rscale offset bytes) sketch h)
-stated_short ZonedRscale offset bytes sketch h = absurd (no_skipped_sketch (reads_zoned_rscale bytes) sketch h)
+days_short Canon offset bytes sketch h = h.readable.within.period
+days_short Rscale offset bytes sketch h = absurd (no_skipped_sketch (reads_rscale offset bytes) sketch h)
+days_short ZonedRscale offset bytes sketch h = absurd (no_skipped_sketch (reads_zoned_rscale bytes) sketch h)
+
+stated_short : (l : Language) (offset : Option ℤ) (bytes : List ℕ) (sketch : Sketch) → IsStatedIn l offset bytes (Ok (of_sketch sketch))
+    → sketch.period ≤ MAX_CYCLE_DAYS
+stated_short (language.Series l) offset bytes sketch h = absurd (no_sketch (series_in l offset bytes) sketch h)
+stated_short (language.Days l) offset bytes sketch h = days_short l offset bytes sketch h
 
 module _ (operand : Operand) (bytes : List ℕ) where
   sketch_short : (sketch : Sketch) → IsSubjectRead operand bytes (Ok (of_sketch sketch)) → sketch.period ≤ MAX_CYCLE_DAYS
-  unfolding IsSubjectRead
+  unfolding IsTextRead
   sketch_short sketch (inl h) = (let e = h.1 in absurd (cc))
   sketch_short sketch (inr h) = stated_short operand.language operand.offset bytes sketch h.1
 

@@ -18,14 +18,13 @@ use Rattle.rr_skip.specs.Members.{IsGivenBy, OccursSkipping}
 use Rattle.rr_skip.specs.Validity.{IsSoundSkipping}
 use Rattle.rr_skip.specs.declared.series.SkipRule.{SkipRule}
 use Rattle.rr_skip.specs.declared.series.SkipSeries.{SkipSeries}
-use Rattle.rr_answer.specs.Command.{Operand}
 use Rattle.rr_model.specs.Moment.Years.{OccurFromYearOne}
 use Rattle.rr_answer.specs.Folding.{IsFoldedFrom}
 use Rattle.rr_answer.specs.Judgement.{IsFault}
-use Rattle.rr_answer.specs.OperandReading.{IsStatedIn, IsSubjectRead, StatesSkipping, skipping_in}
+use Rattle.rr_answer.specs.OperandReading.{AreDaysStatedIn, IsTextRead}
 use Rattle.rr_answer.specs.Subjects.{Subject, as_skipping, of_skipping}
-use Rattle.rr_answer.specs.declared.command.Language.{Language}
-use Rattle.rr_answer.specs.declared.command.Language.TheVariants.{Rrule, ZonedRrule, Vcal, Graph, List as list, Canon, Rscale, ZonedRscale}
+use Rattle.rr_answer.specs.declared.command.DayLanguage.{DayLanguage}
+use Rattle.rr_answer.specs.declared.command.Language.TheVariants.{Days}
 use Rattle.rr_answer.proofs.JudgementLemmas.{refused_text}
 use Rattle.rr_answer.proofs.OperandLemmas.{read_within}
 
@@ -43,29 +42,20 @@ skips_from_year_one series sound k t h =
 
 -- ---- what was read and folded
 
-stated_skipping : (language : Language) (offset : Option ℤ) (bytes : List ℕ) → StatesSkipping language → (r : Result Subject Refusal)
-    → r ≡ as_skipping (skipping_in language offset bytes) → IsStatedIn language offset bytes r
-stated_skipping Rscale offset bytes states r h = h
-stated_skipping ZonedRscale offset bytes states r h = h
-stated_skipping Rrule offset bytes states r h = absurd states
-stated_skipping ZonedRrule offset bytes states r h = absurd states
-stated_skipping Vcal offset bytes states r h = absurd states
-stated_skipping Graph offset bytes states r h = absurd states
-stated_skipping list offset bytes states r h = absurd states
-stated_skipping Canon offset bytes states r h = absurd states
-
-module _ (operand : Operand) (bytes : List ℕ) (states : StatesSkipping operand.language) (few : length bytes ≤ MAX_INPUT) where
-  read_so : (r : Result Subject Refusal) → r ≡ as_skipping (skipping_in operand.language operand.offset bytes) → IsSubjectRead operand bytes r
-  read_so r h = read_within operand bytes few r (stated_skipping operand.language operand.offset bytes states r h)
+-- a language whose texts state what is read here, a series of RFC 7529
+module _ (language : DayLanguage) (offset : Option ℤ) (bytes : List ℕ) (stated : Result SkipSeries Refusal)
+    (is_stated : (r : Result Subject Refusal) → r ≡ as_skipping stated → AreDaysStatedIn language offset bytes r) (few : length bytes ≤ MAX_INPUT) where
+  read_so : (r : Result Subject Refusal) → r ≡ as_skipping stated → IsTextRead (Days language) offset bytes r
+  read_so r h = read_within (Days language) offset bytes few r (is_stated r h)
 
   -- the text itself is refused
-  pub skipping_refused : (fault : Fault) → Answers (skipping_in operand.language operand.offset bytes) (Err fault) → IsFault all_limits (IsSubjectRead operand bytes) fault
-  skipping_refused (Refused refusal) h = refused_text all_limits (IsSubjectRead operand bytes) refusal (read_so (Err refusal) (sym (ap as_skipping h)))
+  pub skipping_refused : (fault : Fault) → Answers stated (Err fault) → IsFault all_limits (IsTextRead (Days language) offset bytes) fault
+  skipping_refused (Refused refusal) h = refused_text all_limits (IsTextRead (Days language) offset bytes) refusal (read_so (Err refusal) (sym (ap as_skipping h)))
   skipping_refused NoMemory h = tt
 
-  module _ {X : Type 0} (of : X → Sketch) (series : SkipSeries) (is_read : skipping_in operand.language operand.offset bytes ≡ Ok series) where
+  module _ {X : Type 0} (of : X → Sketch) (series : SkipSeries) (is_read : stated ≡ Ok series) where
     pub skipping_folded : (result : Result X Fault) → IsSoundSkipping series → IsFoldedSeries of series result
-        → IfOk result (λ f. IsFoldedFrom (IsSubjectRead operand bytes) (of f))
+        → IfOk result (λ f. IsFoldedFrom (IsTextRead (Days language) offset bytes) (of f))
     skipping_folded (Err fault) sound h = tt
     skipping_folded (Ok f) sound h = record {
       subject = of_skipping series;
@@ -80,7 +70,7 @@ module _ (operand : Operand) (bytes : List ℕ) (states : StatesSkipping operand
     }
 
     -- a limit refuses it
-    pub skipping_fault : (result : Result X Fault) → IsFoldedSeries of series result → IfErr result (IsFault all_limits (IsSubjectRead operand bytes))
+    pub skipping_fault : (result : Result X Fault) → IsFoldedSeries of series result → IfErr result (IsFault all_limits (IsTextRead (Days language) offset bytes))
     skipping_fault (Ok f) h = tt
     skipping_fault (Err (Refused refusal)) h =
         record { read = Ok (of_skipping series); is_read = read_so (Ok (of_skipping series)) (sym (ap as_skipping is_read)); is_judged = h }

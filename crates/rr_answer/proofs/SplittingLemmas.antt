@@ -1,17 +1,15 @@
 -- What is said of a plan: it can be written, and together its parts and single events have the occurrences of what was read.
-use Rattle.std.proofs.Common.{◌≡◌, inl, inr, ℕ, List, [], ◌∷◌, Contains, get_or, ℤ, All, refl, sym, ◌∙◌}
+use Rattle.std.proofs.Common.{inl, inr, ℕ, List, get_or, All, refl}
 use Rattle.std.specs.Prelude.{Ok}
 use Rattle.std.proofs.lemmas.List.Elements.{Contains-get_or}
 use Rattle.rr_fold.specs.Judged.{all_limits}
 use Rattle.rr_graph.specs.Written.{HasPattern}
 use Rattle.rr_model.specs.Moment.{Occurrences}
 use Rattle.rr_model.specs.Sets.Sketch.{StandsIn}
-use Rattle.rr_model.specs.Sets.Verdict.{HaveEqualOccurrences}
 use Rattle.rr_model.specs.Vcal.Members.{OccursInVseries}
 use Rattle.rr_model.specs.Vcal.Validity.{IsValidVSeries}
 use Rattle.rr_model.specs.declared.graph.Repeat.{Repeat}
 use Rattle.rr_model.specs.declared.graph.Repeat.TheVariants as repeat
-use Rattle.rr_model.specs.declared.kind.Kind.{Kind}
 use Rattle.rr_model.specs.declared.sketch.Sketch.{Sketch}
 use Rattle.rr_model.specs.declared.verdict.Side.TheVariants.{A}
 use Rattle.rr_plan.specs.Few.{IsOneOf}

@@ -20,7 +20,7 @@ use Rattle.rr_answer.specs.Listing.{ListsFirst, listed_text, occurrence_line}
 use Rattle.rr_answer.specs.Said.{Answer, IsDone, IsSaidUnder}
 use Rattle.rr_answer.specs.Subjects.{OccursIn, Reading, Subject, kind_of}
 use Rattle.rr_answer.specs.Windows.{AreTimesSaid, IsBetweenSaid, IsFromSaid, IsWindowSaid, TellsIfAll}
-use Rattle.rr_answer.specs.declared.command.TheConstants.{MAX_LIST}
+use Rattle.rr_answer.specs.declared.quantities.TheConstants.{MAX_LIST}
 use Rattle.rr_answer.specs.declared.status.Status.{Status}
 use Rattle.rr_answer.proofs.DoneLemmas.{done_is_one}
 use Rattle.rr_answer.proofs.FirstLemmas.{all_in, first_all, first_but_one, first_is_one, first_same, listed_is_one, not_in_front}

@@ -1,10 +1,12 @@
--- What the text of an operand states in its own language, with no word of RFC 5545 but where that is its language.
+-- What the text of an operand states in its own language, with no word of RFC 5545 unless that is its language.
 use Rattle.std.specs.Prelude.{◌≡◌, ℤ, List, ℕ, Option, Ok}
 use Rattle.rr_answer.specs.Command.{Operand}
 use Rattle.rr_answer.specs.OperandReading.{IsSubjectRead, reads_zoned_rrule, reads_zoned_rscale}
 use Rattle.rr_answer.specs.Subjects.{OccursIn, Subject}
 use Rattle.rr_answer.specs.declared.command.Language.{Language}
-use Rattle.rr_answer.specs.declared.command.Language.TheVariants.{Rrule, ZonedRrule, Vcal, Graph, List as list, Canon, Rscale, ZonedRscale}
+use Rattle.rr_answer.specs.declared.command.DayLanguage.TheVariants.{Canon, Rscale, ZonedRscale}
+use Rattle.rr_answer.specs.declared.command.Language.TheVariants as language
+use Rattle.rr_answer.specs.declared.command.SeriesLanguage.TheVariants.{Rrule, ZonedRrule, Vcal, Graph, List as list}
 use Rattle.rr_algebra.specs.Stated.{IsDescriptor}
 use Rattle.rr_model.specs.Graph.Occurrences.{IsGraphOccurrence}
 use Rattle.rr_model.specs.Graph.Reading.{reads_graph}
@@ -29,14 +31,14 @@ use Rattle.rr_skip.specs.declared.series.SkipSeries.{SkipSeries}
 -- days of a Graph pattern within its range, of the sketch of a canonical text, of a rule of RFC 7529 with its SKIP. The offset is the
 -- stated one, local time less UTC in seconds; with `zone` the moments of UTC of a text are read in local time of the zones that it defines.
 abbrev pub OccursAsStated : Language → Option ℤ → List ℕ → Occurrences
-OccursAsStated Rrule offset bytes k t = (series : Series) × (reads_calendar offset bytes ≡ Ok series) × Occurs series k t
-OccursAsStated ZonedRrule offset bytes k t = (series : Series) × (reads_zoned_rrule bytes ≡ Ok series) × Occurs series k t
-OccursAsStated list offset bytes k t = (series : Series) × (reads_list bytes ≡ Ok series) × Occurs series k t
-OccursAsStated Vcal offset bytes k t = (series : VSeries) × (reads_vcal offset bytes ≡ Ok series) × OccursInVseries series k t
-OccursAsStated Graph offset bytes k t = (event : GraphEvent) × (reads_graph offset bytes ≡ Ok event) × IsGraphOccurrence event k t
-OccursAsStated Canon offset bytes k t = (sketch : Sketch) × IsDescriptor (without_mark bytes) sketch × StandsIn sketch k t
-OccursAsStated Rscale offset bytes k t = (series : SkipSeries) × (reads_rscale offset bytes ≡ Ok series) × OccursSkipping series k t
-OccursAsStated ZonedRscale offset bytes k t = (series : SkipSeries) × (reads_zoned_rscale bytes ≡ Ok series) × OccursSkipping series k t
+OccursAsStated (language.Series Rrule) offset bytes k t = (series : Series) × (reads_calendar offset bytes ≡ Ok series) × Occurs series k t
+OccursAsStated (language.Series ZonedRrule) offset bytes k t = (series : Series) × (reads_zoned_rrule bytes ≡ Ok series) × Occurs series k t
+OccursAsStated (language.Series list) offset bytes k t = (series : Series) × (reads_list bytes ≡ Ok series) × Occurs series k t
+OccursAsStated (language.Series Vcal) offset bytes k t = (series : VSeries) × (reads_vcal offset bytes ≡ Ok series) × OccursInVseries series k t
+OccursAsStated (language.Series Graph) offset bytes k t = (event : GraphEvent) × (reads_graph offset bytes ≡ Ok event) × IsGraphOccurrence event k t
+OccursAsStated (language.Days Canon) offset bytes k t = (sketch : Sketch) × IsDescriptor (without_mark bytes) sketch × StandsIn sketch k t
+OccursAsStated (language.Days Rscale) offset bytes k t = (series : SkipSeries) × (reads_rscale offset bytes ≡ Ok series) × OccursSkipping series k t
+OccursAsStated (language.Days ZonedRscale) offset bytes k t = (series : SkipSeries) × (reads_zoned_rscale bytes ≡ Ok series) × OccursSkipping series k t
 
 -- What is read of an operand has the occurrences that its text states in its own language.
 abbrev pub OwnSense : Type 0

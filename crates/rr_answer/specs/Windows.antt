@@ -7,7 +7,7 @@ use Rattle.rr_next.specs.declared.number.Moment.{Moment}
 use Rattle.rr_answer.specs.Listing.{ListsFirst, listed_text}
 use Rattle.rr_answer.specs.Said.{Answer, IsDone}
 use Rattle.rr_answer.specs.Subjects.{OccursIn, Subject, kind_of}
-use Rattle.rr_answer.specs.declared.command.TheConstants.{MAX_LIST}
+use Rattle.rr_answer.specs.declared.quantities.TheConstants.{MAX_LIST}
 use Rattle.rr_answer.specs.declared.status.Status.{Status}
 use Rattle.rr_answer.specs.declared.status.Status.TheVariants as status
 

@@ -1,7 +1,6 @@
 // What `clear` says of two series.
 ghost use Rattle.std.specs.Prelude.{◌≡◌, IfOk};
 ghost use Rattle.rr_model.specs.declared.kind.Kind.TheVariants.{Moments};
-ghost use Rattle.rr_overlap.specs.Running.{IsDuration};
 ghost use Rattle.rr_days.specs.Sequence.{sketch};
 ghost use Rattle.rr_answer.specs.Clashes.{IsPrintableClash, clash_said, clash_text};
 ghost use Rattle.rr_answer.specs.Folding.{IsFromYearOneOn};
@@ -12,6 +11,7 @@ ghost use Rattle.rr_answer.specs.declared.command.Inquiry.TheVariants.{Clash as 
 
 use crate::conclusion::Conclusion;
 use crate::outcome::{Outcome, outcome_of_refusal};
+use crate::quantities::Duration;
 use crate::verdicts::repeat_together;
 use rr_days::Folded;
 use rr_model::{Kind, NoMemory, Refusal, Side};
@@ -66,17 +66,15 @@ fn outcome_of_clash(
     }
 }
 
-/// What is said of two series that are within their limits, whose occurrences last `duration_a` and `duration_b` seconds: that
+/// What is said of two series that are within their limits, whose occurrences last `duration_a` and `duration_b`: that
 /// their common cycle is too long, or that they never run at the same time, or the first clash.
 pub fn clash_outcome(
     alloc: Global,
-    duration_a: u32,
+    duration_a: Duration,
     a: &Folded,
-    duration_b: u32,
+    duration_b: Duration,
     b: &Folded,
 ) -> Result<Outcome, NoMemory>
-    requires first { IsDuration duration_a }
-    requires second { IsDuration duration_b }
     requires a { IsFromYearOneOn (sketch a.now) }
     requires b { IsFromYearOneOn (sketch b.now) }
     ensures { IfOk result (λ x. IsSaidOfFolds (AskClash duration_a duration_b)
@@ -88,6 +86,6 @@ pub fn clash_outcome(
     }
     let kind_a = a.kind();
     let kind_b = b.kind();
-    let clash = clear(a, duration_a, b, duration_b);
+    let clash = clear(a, duration_a.get(), b, duration_b.get());
     outcome_of_clash(alloc, kind_a, kind_b, clash)
 }

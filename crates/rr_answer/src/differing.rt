@@ -10,9 +10,9 @@ ghost use Rattle.rr_answer.specs.Outcome.{answer_of};
 ghost use Rattle.rr_answer.specs.Verdicts.{IsSaidOfFolds};
 ghost use Rattle.rr_answer.specs.declared.command.Inquiry.TheVariants.{Differences};
 
-use crate::command::MAX_DIFFERENCES;
 use crate::conclusion::Conclusion;
 use crate::outcome::Outcome;
+use crate::quantities::DifferenceCount;
 use rr_days::Folded;
 use rr_differ::{Difference, first_differences};
 use rr_model::NoMemory;
@@ -58,16 +58,14 @@ fn outcome_of_differences(alloc: Global, differences: &[Difference]) -> Result<O
 }
 
 /// What is said of two series that are within their limits: yes and nothing if they have equal occurrences, otherwise no with the
-/// first occurrences that exactly one of them has, each with its side.
-///
-/// They are as many as is asked, from 1 to `MAX_DIFFERENCES`, or all if there are fewer.
+/// first occurrences that exactly one of them has, each with its side: as many as is asked, or all
+/// if there are fewer.
 pub fn differences_outcome(
     alloc: Global,
-    count: u64,
+    count: DifferenceCount,
     a: &Folded,
     b: &Folded,
 ) -> Result<Outcome, NoMemory>
-    requires few { count ≤ MAX_DIFFERENCES }
     requires a { IsFromYearOneOn (sketch a.now) }
     requires b { IsFromYearOneOn (sketch b.now) }
     requires short_a { (sketch a.now).period ≤ MAX_CYCLE_DAYS }
@@ -75,6 +73,6 @@ pub fn differences_outcome(
     ensures { IfOk result
         (λ x. IsSaidOfFolds (Differences count) (sketch a.now) (sketch b.now) (answer_of x)) }
 {
-    let differences = first_differences(alloc, a, b, count as usize)?;
+    let differences = first_differences(alloc, a, b, count.get() as usize)?;
     outcome_of_differences(alloc, differences.as_slice())
 }

@@ -1,20 +1,20 @@
 // What `nth` and `rank` say of an operand.
-ghost use Rattle.std.specs.Prelude.{◌≡◌, ◌<◌, ◌≤◌, IfOk};
-ghost use Rattle.rr_model.specs.Moment.Years.{IsInYears};
+ghost use Rattle.std.specs.Prelude.{◌≡◌, ◌<◌, IfOk};
 ghost use Rattle.rr_model.specs.Sets.Sketch.{StandsIn};
 ghost use Rattle.rr_rank.specs.Rank.{IsNthOf, IsRank};
 ghost use Rattle.rr_days.specs.Sequence.{sketch};
 ghost use Rattle.rr_answer.specs.Numbers.{IsPrintableNth, nth_said, rank_said};
 ghost use Rattle.rr_answer.specs.Outcome.{answer_of};
-ghost use Rattle.rr_answer.specs.Tasks.{AnswersTask};
-ghost use Rattle.rr_answer.specs.declared.command.Task.TheVariants.{Nth as AskNth, Rank as AskRank};
+ghost use Rattle.rr_answer.specs.Tasks.{AnswersDays};
+ghost use Rattle.rr_answer.specs.declared.command.DayTask.TheVariants.{Nth as AskNth, Rank as AskRank};
 
 use crate::command::Operand;
 use crate::conclusion::Conclusion;
 use crate::folding::read_folded;
 use crate::outcome::{Outcome, outcome_of_fault, outcome_of_refusal};
+use crate::quantities::{AskedMoment, OccurrenceNumber};
 use rr_days::Folded;
-use rr_model::{Kind, NoMemory, Refusal, Side};
+use rr_model::{NoMemory, Refusal, Side};
 use rr_rank::{Nth, Ranked};
 use rr_steps::Steps;
 use rr_text::push_extended;
@@ -27,24 +27,25 @@ use std::sync::ledger::{Blank, Ledger};
 fn nth_in<L: Ledger>(
     alloc: Global,
     days: &Counted<Folded, L>,
-    n: u64,
+    n: OccurrenceNumber,
     steps: &mut Steps<L>,
 ) -> Result<Nth, NoMemory>
-    requires some { 1 ≤ n }
-    requires most { n ≤ 1_125_899_906_842_624 }
     ensures { IfOk result (λ r. IsNthOf (StandsIn (sketch days.now)) n r) }
 {
     let ranked = Ranked::new(alloc, days, steps)?;
-    Ok(ranked.nth(n, steps))
+    Ok(ranked.nth(n.get(), steps))
 }
 
-// The same of days that are not needed any more.
-fn nth_of<L: Ledger>(alloc: Global, days: Folded, n: u64, blank: Blank) -> Result<Nth, NoMemory>
+// The n-th occurrence of days that are not needed any more.
+fn nth_of<L: Ledger>(
+    alloc: Global,
+    days: Folded,
+    n: OccurrenceNumber,
+    blank: Blank,
+) -> Result<Nth, NoMemory>
     requires name { blank.name ≡ L.name }
     requires parts { blank.parts ≡ L.parts }
     requires own { 0 < blank.parts }
-    requires some { 1 ≤ n }
-    requires most { n ≤ 1_125_899_906_842_624 }
     ensures { IfOk result (λ r. IsNthOf (StandsIn (sketch days)) n r) }
 {
     let mut steps = Steps::<L>::new(blank);
@@ -59,34 +60,31 @@ fn nth_of<L: Ledger>(alloc: Global, days: Folded, n: u64, blank: Blank) -> Resul
 fn rank_in<L: Ledger>(
     alloc: Global,
     days: &Counted<Folded, L>,
-    kind: Kind,
-    at: i64,
+    moment: AskedMoment,
     steps: &mut Steps<L>,
 ) -> Result<u64, NoMemory>
-    requires { IsInYears kind at }
-    ensures { IfOk result (λ n. IsRank (StandsIn (sketch days.now)) kind at n) }
+    ensures { IfOk result (λ n. IsRank (StandsIn (sketch days.now)) moment.kind moment.at n) }
 {
     let ranked = Ranked::new(alloc, days, steps)?;
-    Ok(ranked.rank(kind, at, steps))
+    let moment = moment.get();
+    Ok(ranked.rank(moment.kind, moment.at, steps))
 }
 
-// The same of days that are not needed any more.
+// How many occurrences are not after a moment, of days that are not needed any more.
 fn rank_of<L: Ledger>(
     alloc: Global,
     days: Folded,
-    kind: Kind,
-    at: i64,
+    moment: AskedMoment,
     blank: Blank,
 ) -> Result<u64, NoMemory>
     requires name { blank.name ≡ L.name }
     requires parts { blank.parts ≡ L.parts }
     requires own { 0 < blank.parts }
-    requires years { IsInYears kind at }
-    ensures { IfOk result (λ n. IsRank (StandsIn (sketch days)) kind at n) }
+    ensures { IfOk result (λ n. IsRank (StandsIn (sketch days)) moment.kind moment.at n) }
 {
     let mut steps = Steps::<L>::new(blank);
     let counted = Counted::new(days);
-    let rank = rank_in(alloc, &counted, kind, at, &mut steps);
+    let rank = rank_in(alloc, &counted, moment, &mut steps);
     // By a call, as in `nth_of`.
     drop(counted);
     rank
@@ -120,11 +118,9 @@ pub fn nth_outcome(
     alloc: Global,
     operand: Operand,
     bytes: &[u8],
-    n: u64,
+    n: OccurrenceNumber,
 ) -> Result<Outcome, NoMemory>
-    requires some { 1 ≤ n }
-    requires most { n ≤ 1_125_899_906_842_624 }
-    ensures { IfOk result (AnswersTask (AskNth n) operand.entry bytes.now) }
+    ensures { IfOk result (AnswersDays (AskNth n) operand.entry bytes.now) }
 {
     match read_folded(alloc, operand, bytes) {
         Err(fault) => outcome_of_fault(alloc, Side::A, fault),
@@ -143,22 +139,17 @@ fn outcome_of_rank(alloc: Global, rank: u64) -> Result<Outcome, NoMemory>
 }
 
 /// What is said of an operand's bytes: why its text or its series is refused, or how many of its occurrences are not after a
-/// moment of the years 1 to 9999, or a date of them.
+/// date or a moment.
 pub fn rank_outcome(
     alloc: Global,
     operand: Operand,
     bytes: &[u8],
-    kind: Kind,
-    at: i64,
+    moment: AskedMoment,
 ) -> Result<Outcome, NoMemory>
-    requires { IsInYears kind at }
-    ensures { IfOk result (AnswersTask (AskRank kind at) operand.entry bytes.now) }
+    ensures { IfOk result (AnswersDays (AskRank moment) operand.entry bytes.now) }
 {
     match read_folded(alloc, operand, bytes) {
         Err(fault) => outcome_of_fault(alloc, Side::A, fault),
-        Ok(days) => outcome_of_rank(
-            alloc,
-            rank_of::<Brand>(alloc, days, kind, at, Blank::new(1))?,
-        ),
+        Ok(days) => outcome_of_rank(alloc, rank_of::<Brand>(alloc, days, moment, Blank::new(1))?),
     }
 }

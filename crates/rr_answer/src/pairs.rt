@@ -4,7 +4,6 @@ ghost use Rattle.rr_model.specs.declared.question.Question.TheVariants.{Equal};
 ghost use Rattle.rr_model.specs.declared.limits.TheConstants.{MAX_CYCLE_DAYS};
 ghost use Rattle.rr_days.specs.Sequence.{sketch};
 ghost use Rattle.rr_answer.specs.Answer.{IsPairAnswer, IsSaidBeside};
-ghost use Rattle.rr_answer.specs.Command.{HasDurations};
 ghost use Rattle.rr_answer.specs.Folding.{IsFromYearOneOn};
 ghost use Rattle.rr_answer.specs.OperandReading.{HaveOneText};
 ghost use Rattle.rr_answer.specs.Outcome.{answer_of};
@@ -31,7 +30,6 @@ fn said_of_both(
     a: &Folded,
     b: &Folded,
 ) -> Result<Outcome, NoMemory>
-    requires durations { HasDurations inquiry }
     requires a { IsFromYearOneOn (sketch a.now) }
     requires b { IsFromYearOneOn (sketch b.now) }
     requires short_a { (sketch a.now).period ≤ MAX_CYCLE_DAYS }
@@ -61,7 +59,6 @@ pub fn outcome_beside(
     b: Operand,
     text_b: &[u8],
 ) -> Result<Outcome, NoMemory>
-    requires durations { HasDurations inquiry }
     requires years { IsFromYearOneOn (sketch a.now) }
     requires short { (sketch a.now).period ≤ MAX_CYCLE_DAYS }
     requires near { (sketch a.now).settled ≤ℤ pos 40_000_000 }
@@ -83,8 +80,8 @@ fn is_one_text(a: Operand, text_a: &[u8], b: Operand, text_b: &[u8]) -> bool
 }
 
 // Whether it is asked if one text has the same occurrences as itself.
-fn asks_of_itself(inquiry: Inquiry, a: Operand, text_a: &[u8], b: Operand, text_b: &[u8]) -> bool
-    ensures { IsTrue result → (inquiry ≡ Ask Equal)
+fn asks_of_itself(inquiry: &Inquiry, a: Operand, text_a: &[u8], b: Operand, text_b: &[u8]) -> bool
+    ensures { IsTrue result → (inquiry.now ≡ Ask Equal)
         × HaveOneText (operand_in a.entry) text_a.now (operand_in b.entry) text_b.now }
 {
     match inquiry {
@@ -93,10 +90,10 @@ fn asks_of_itself(inquiry: Inquiry, a: Operand, text_a: &[u8], b: Operand, text_
     }
 }
 
-/// What is said of the bytes of two operands: the refusal of A, else that of B, else that of both, else what is asked of
-/// them.
+/// What is said of the bytes of two operands: the refusal of A, otherwise that of B, otherwise that of both, otherwise what is
+/// asked of them.
 ///
-/// B is not read where A is refused, or where equality is asked of one text twice.
+/// B is not read if A is refused, or if equality is asked of one text twice.
 pub fn pair_outcome(
     alloc: Global,
     inquiry: Inquiry,
@@ -105,7 +102,6 @@ pub fn pair_outcome(
     b: Operand,
     text_b: &[u8],
 ) -> Result<Outcome, NoMemory>
-    requires { HasDurations inquiry }
     ensures { IfOk result (λ x. IsPairAnswer inquiry (IsReadOf a.entry text_a.now)
         (IsReadOf b.entry text_b.now) (answer_of x)) }
 {
@@ -113,7 +109,7 @@ pub fn pair_outcome(
         Err(fault) => return outcome_of_fault(alloc, Side::A, fault),
         Ok(days) => days,
     };
-    if asks_of_itself(inquiry, a, text_a, b, text_b) {
+    if asks_of_itself(&inquiry, a, text_a, b, text_b) {
         return outcome_of_verdict(alloc, Verdict::Yes);
     }
     outcome_beside(alloc, inquiry, &of_a, b, text_b)

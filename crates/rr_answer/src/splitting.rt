@@ -1,5 +1,5 @@
 // What `split` says of an operand.
-ghost use Rattle.std.specs.Prelude.{◌≤◌, IfOk};
+ghost use Rattle.std.specs.Prelude.{IfOk};
 ghost use Rattle.rr_model.specs.Sets.Sketch.{StandsIn};
 ghost use Rattle.rr_days.specs.Sequence.{sketch};
 ghost use Rattle.rr_split.specs.Promise.{IsUnplanned};
@@ -8,13 +8,14 @@ ghost use Rattle.rr_answer.specs.Folding.{IsFromYearOneOn};
 ghost use Rattle.rr_answer.specs.Outcome.{answer_of};
 ghost use Rattle.rr_answer.specs.Said.{IsDoneOrNotSayable};
 ghost use Rattle.rr_answer.specs.Splitting.{IsPlanText, IsVcalPlanText};
-ghost use Rattle.rr_answer.specs.Tasks.{AnswersTask};
-ghost use Rattle.rr_answer.specs.declared.command.Task.TheVariants.{Split, SplitVcal};
+ghost use Rattle.rr_answer.specs.Tasks.{AnswersDays};
+ghost use Rattle.rr_answer.specs.declared.command.DayTask.TheVariants.{Split, SplitVcal};
 
-use crate::command::{MAX_SPLIT, Operand};
+use crate::command::Operand;
 use crate::conclusion::Conclusion;
 use crate::folding::read_folded;
 use crate::outcome::{Outcome, outcome_of_fault, outcome_of_refusal};
+use crate::quantities::SplitCount;
 use rr_days::Folded;
 use rr_model::{NoMemory, Refusal, Side};
 use rr_plan_text::{write_plan, write_vcal_plan};
@@ -22,14 +23,13 @@ use rr_split::{search, search_vcal};
 use std::alloc::Global;
 
 // The text of a plan of days, or that none is found.
-fn outcome_of_days(alloc: Global, days: Folded, most: u64) -> Result<Outcome, NoMemory>
-    requires occur { IsFromYearOneOn (sketch days) }
-    requires some { 1 ≤ most }
+fn outcome_of_days(alloc: Global, days: Folded, most: SplitCount) -> Result<Outcome, NoMemory>
+    requires { IsFromYearOneOn (sketch days) }
     ensures { IfOk result (λ x. IsDoneOrNotSayable
         (IsPlanText most (StandsIn (sketch days)) (sketch days)) (IsUnplanned most (sketch days))
         (answer_of x)) }
 {
-    let Some(plan) = search(alloc, days, most as usize)? else {
+    let Some(plan) = search(alloc, days, most.get() as usize)? else {
         return outcome_of_refusal(alloc, Side::A, Refusal::NotSayable);
     };
     Ok(Outcome {
@@ -39,18 +39,16 @@ fn outcome_of_days(alloc: Global, days: Folded, most: u64) -> Result<Outcome, No
 }
 
 /// What is said of an operand's bytes: why its text or its series is refused, or a plan of at most `most` series of Microsoft Graph
-/// with cancelled instances, and of single events, that have its occurrences together, each once. `most` is 1 to `MAX_SPLIT`.
+/// with cancelled instances, and of single events, that have its occurrences together, each once.
 ///
 /// `NotSayable` comes last, if no plan is found.
 pub fn split_outcome(
     alloc: Global,
     operand: Operand,
     bytes: &[u8],
-    most: u64,
+    most: SplitCount,
 ) -> Result<Outcome, NoMemory>
-    requires some { 1 ≤ most }
-    requires few { most ≤ MAX_SPLIT }
-    ensures { IfOk result (AnswersTask (Split most) operand.entry bytes.now) }
+    ensures { IfOk result (AnswersDays (Split most) operand.entry bytes.now) }
 {
     match read_folded(alloc, operand, bytes) {
         Err(fault) => outcome_of_fault(alloc, Side::A, fault),
@@ -59,13 +57,12 @@ pub fn split_outcome(
 }
 
 // The text of a plan of days in events of vCalendar 1.0, or that none is found.
-fn vcal_outcome_of_days(alloc: Global, days: Folded, most: u64) -> Result<Outcome, NoMemory>
-    requires some { 1 ≤ most }
+fn vcal_outcome_of_days(alloc: Global, days: Folded, most: SplitCount) -> Result<Outcome, NoMemory>
     ensures { IfOk result (λ x. IsDoneOrNotSayable
         (IsVcalPlanText most (StandsIn (sketch days)) (sketch days)) (HasNoVcalPlan (sketch days))
         (answer_of x)) }
 {
-    let Some(plan) = search_vcal(alloc, days, most as usize)? else {
+    let Some(plan) = search_vcal(alloc, days, most.get() as usize)? else {
         return outcome_of_refusal(alloc, Side::A, Refusal::NotSayable);
     };
     Ok(Outcome {
@@ -75,18 +72,16 @@ fn vcal_outcome_of_days(alloc: Global, days: Folded, most: u64) -> Result<Outcom
 }
 
 /// What is said of an operand's bytes: why its text or its series is refused, or a plan of at most `most` events of vCalendar 1.0 with
-/// one rule each, and of one event of single dates, that have its occurrences together, each once. `most` is 1 to `MAX_SPLIT`.
+/// one rule each, and of one event of single dates, that have its occurrences together, each once.
 ///
 /// `NotSayable` comes last, if no plan is found.
 pub fn split_vcal_outcome(
     alloc: Global,
     operand: Operand,
     bytes: &[u8],
-    most: u64,
+    most: SplitCount,
 ) -> Result<Outcome, NoMemory>
-    requires some { 1 ≤ most }
-    requires few { most ≤ MAX_SPLIT }
-    ensures { IfOk result (AnswersTask (SplitVcal most) operand.entry bytes.now) }
+    ensures { IfOk result (AnswersDays (SplitVcal most) operand.entry bytes.now) }
 {
     match read_folded(alloc, operand, bytes) {
         Err(fault) => outcome_of_fault(alloc, Side::A, fault),

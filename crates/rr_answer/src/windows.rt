@@ -1,6 +1,5 @@
 // What `from` and `between` say of an operand.
 ghost use Rattle.std.specs.Prelude.{◌≡◌, ◌++◌, ◌≤◌, All, IfOk, OnOk};
-ghost use Rattle.rr_model.specs.Moment.Years.{IsInYears};
 ghost use Rattle.rr_model.specs.Sets.Sketch.{StandsIn};
 ghost use Rattle.rr_days.specs.Sequence.{sketch};
 ghost use Rattle.rr_next.specs.Window.{between, from_on};
@@ -9,18 +8,19 @@ ghost use Rattle.rr_answer.specs.Folding.{IsFromYearOneOn};
 ghost use Rattle.rr_answer.specs.Listing.{ListsFirst, listed_text, occurrence_line};
 ghost use Rattle.rr_answer.specs.Outcome.{answer_of};
 ghost use Rattle.rr_answer.specs.Said.{IsDone};
-ghost use Rattle.rr_answer.specs.Tasks.{AnswersTask};
+ghost use Rattle.rr_answer.specs.Tasks.{AnswersDays};
 ghost use Rattle.rr_answer.specs.Windows.{AreTimesSaid, IsWindowSaid};
-ghost use Rattle.rr_answer.specs.declared.command.Task.TheVariants.{Between as AskBetween, From as AskFrom};
+ghost use Rattle.rr_answer.specs.declared.command.DayTask.TheVariants.{Between as AskBetween, From as AskFrom};
 ghost use Rattle.rr_model.specs.declared.limits.TheConstants.{MAX_CYCLE_DAYS};
 
-use crate::command::{MAX_LIST, Operand};
+use crate::command::Operand;
 use crate::conclusion::Conclusion;
 use crate::folding::read_folded;
 use crate::outcome::{Outcome, outcome_of_fault};
+use crate::quantities::{AskedMoment, ListCount, MAX_LIST};
 use rr_days::Folded;
 use rr_model::{Kind, NoMemory, Side};
-use rr_next::{Moment, first_between, first_from};
+use rr_next::{first_between, first_from};
 use rr_text::push_extended;
 use rr_word::DaySeq;
 use std::alloc::Global;
@@ -51,17 +51,15 @@ fn lines_of(alloc: Global, kind: Kind, times: &[i64]) -> Result<Vec<u8>, NoMemor
 fn outcome_from(
     alloc: Global,
     days: &Folded,
-    moment: Moment,
-    count: u64,
+    moment: AskedMoment,
+    count: ListCount,
 ) -> Result<Outcome, NoMemory>
     requires occur { IsFromYearOneOn (sketch days.now) }
     requires short { (sketch days.now).period ≤ MAX_CYCLE_DAYS }
-    requires years { IsInYears moment.kind moment.at }
-    requires few { count ≤ MAX_LIST }
     ensures { IfOk result (λ x. IsDone (ListsFirst (from_on (StandsIn (sketch days.now)) moment.kind
         moment.at (sketch days.now).kind) (sketch days.now).kind count) (answer_of x)) }
 {
-    let times = first_from(alloc, days, moment, count as usize)?;
+    let times = first_from(alloc, days, moment.get(), count.get() as usize)?;
     Ok(Outcome {
         conclusion: Conclusion::Yes,
         text: lines_of(alloc, days.kind(), times.as_slice())?,
@@ -90,35 +88,28 @@ fn outcome_of_times(alloc: Global, kind: Kind, times: &[i64]) -> Result<Outcome,
 fn outcome_between(
     alloc: Global,
     days: &Folded,
-    from: Moment,
-    to: Moment,
+    from: AskedMoment,
+    to: AskedMoment,
 ) -> Result<Outcome, NoMemory>
     requires occur { IsFromYearOneOn (sketch days.now) }
     requires short { (sketch days.now).period ≤ MAX_CYCLE_DAYS }
-    requires years { IsInYears from.kind from.at }
-    requires end_years { IsInYears to.kind to.at }
     ensures { IfOk result (λ x. IsWindowSaid (between (StandsIn (sketch days.now)) from.kind from.at
         to.kind to.at (sketch days.now).kind) (sketch days.now).kind (answer_of x)) }
 {
-    let times = first_between(alloc, days, from, to, MAX_LIST as usize + 1)?;
+    let times = first_between(alloc, days, from.get(), to.get(), MAX_LIST as usize + 1)?;
     outcome_of_times(alloc, days.kind(), times.as_slice())
 }
 
 /// What is said of an operand's bytes: why its text or its series is refused, or its first occurrences that do not come before a
-/// moment of the years 1 to 9999, or a date of them, one a line.
-///
-/// They are as many as is asked, from 1 to `MAX_LIST`, or all if there are fewer.
+/// date or a moment, one a line: as many as is asked, or all if there are fewer.
 pub fn from_outcome(
     alloc: Global,
     operand: Operand,
     bytes: &[u8],
-    moment: Moment,
-    count: u64,
+    moment: AskedMoment,
+    count: ListCount,
 ) -> Result<Outcome, NoMemory>
-    requires years { IsInYears moment.kind moment.at }
-    requires some { 1 ≤ count }
-    requires few { count ≤ MAX_LIST }
-    ensures { IfOk result (AnswersTask (AskFrom moment count) operand.entry bytes.now) }
+    ensures { IfOk result (AnswersDays (AskFrom moment count) operand.entry bytes.now) }
 {
     match read_folded(alloc, operand, bytes) {
         Err(fault) => outcome_of_fault(alloc, Side::A, fault),
@@ -126,20 +117,18 @@ pub fn from_outcome(
     }
 }
 
-/// What is said of an operand's bytes: why its text or its series is refused, or its occurrences that do not come before one moment
-/// of the years 1 to 9999, or a date of them, and come before another, one a line.
+/// What is said of an operand's bytes: why its text or its series is refused, or its occurrences that do not come before one date or
+/// moment and come before another, one a line.
 ///
 /// If there are more than `MAX_LIST`, the answer is no, with the first of them.
 pub fn between_outcome(
     alloc: Global,
     operand: Operand,
     bytes: &[u8],
-    from: Moment,
-    to: Moment,
+    from: AskedMoment,
+    to: AskedMoment,
 ) -> Result<Outcome, NoMemory>
-    requires years { IsInYears from.kind from.at }
-    requires end_years { IsInYears to.kind to.at }
-    ensures { IfOk result (AnswersTask (AskBetween from to) operand.entry bytes.now) }
+    ensures { IfOk result (AnswersDays (AskBetween from to) operand.entry bytes.now) }
 {
     match read_folded(alloc, operand, bytes) {
         Err(fault) => outcome_of_fault(alloc, Side::A, fault),

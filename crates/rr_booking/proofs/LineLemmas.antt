@@ -1,12 +1,12 @@
 -- The answers of a booking, as they are put one behind the other.
-use Rattle.std.proofs.Common.{◌≡◌, ℕ, ◌+◌, ◌<◌, List, [], ◌∷◌, ◌++◌, length, drop, get_or, Bool, false, ◌||◌, Some, Ok, refl, sym, ap, subst, ◌∙◌, append_assoc}
+use Rattle.std.proofs.Common.{◌≡◌, ℕ, ◌+◌, ◌<◌, List, [], ◌∷◌, ◌++◌, length, drop, get_or, Bool, false, ◌||◌, Ok, refl, sym, ap, subst, ◌∙◌, append_assoc}
 use Rattle.std.specs.List.{flat_map, list_any}
 use Rattle.std.proofs.lemmas.List.{append-nil, at_drop_more, flat_map_more}
 use Rattle.std.proofs.lemmas.List.Folds.{list_any-append}
 use Rattle.std.proofs.Math.Bool.{or-false}
 use Rattle.rr_model.specs.declared.sketch.Sketch.{Sketch}
-use Rattle.rr_answer.specs.Answer.{IsAnswer, IsSaidBeside}
-use Rattle.rr_answer.specs.Command.{Operand, of_two}
+use Rattle.rr_answer.specs.Answer.{IsSaidBeside}
+use Rattle.rr_answer.specs.Command.{Operand}
 use Rattle.rr_answer.specs.Folding.{IsFoldedFrom}
 use Rattle.rr_answer.specs.OperandReading.{IsSubjectRead}
 use Rattle.rr_answer.specs.Said.{Answer}

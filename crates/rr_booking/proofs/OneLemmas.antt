@@ -9,7 +9,7 @@ use Rattle.rr_answer.specs.OperandReading.{IsSubjectRead}
 use Rattle.rr_answer.specs.Said.{Answer}
 use Rattle.rr_answer.specs.declared.command.Inquiry.TheVariants.{Clash}
 use Rattle.rr_answer.proofs.JudgementLemmas.{said_within_is_one}
-use Rattle.rr_answer.proofs.OperandLemmas.{subject_read_is_one}
+use Rattle.rr_answer.proofs.OperandLemmas.{text_read_is_one}
 use Rattle.rr_booking.specs.Booking.{AreAnswers, Booking, BookingAnswerIsOne, IsSaidOfAll, Other, answer_of_all}
 
 module _ (one : AnswerIsOne) where
@@ -32,4 +32,4 @@ module _ (one : AnswerIsOne) where
   booking_is_one first None text x y h l = h ∙ sym l
   booking_is_one first (Some booking) text x y h l =
       said_within_is_one first A all_limits (IsSubjectRead booking.candidate text) (λ subject. IsSaidOfAll booking text)
-      (subject_read_is_one booking.candidate text) (λ subject. said_of_all_is_one booking text) x y h l
+      (text_read_is_one booking.candidate.language booking.candidate.offset text) (λ subject. said_of_all_is_one booking text) x y h l

@@ -9,7 +9,7 @@ use Rattle.rr_answer.specs.Command.{Operand, number_between, of_two, operand_of}
 use Rattle.rr_answer.specs.OperandReading.{IsSubjectRead}
 use Rattle.rr_answer.specs.Said.{Answer, IsSaidUnder, line}
 use Rattle.rr_answer.specs.declared.command.Inquiry.TheVariants.{Clash}
-use Rattle.rr_answer.specs.declared.command.TheConstants.{MAX_DURATION}
+use Rattle.rr_answer.specs.declared.quantities.TheConstants.{MAX_DURATION}
 use Rattle.rr_answer.specs.declared.status.Status.{Status}
 use Rattle.rr_answer.specs.declared.status.Status.TheVariants as status
 use Rattle.rr_booking.specs.declared.request.TheConstants.{MAX_LENGTH}

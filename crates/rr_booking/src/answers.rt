@@ -3,14 +3,12 @@ ghost use Rattle.std.specs.Prelude.{◌≡◌, ◌≤◌, IfOk, ◌≤ℤ◌, po
 ghost use Rattle.rr_model.specs.declared.limits.TheConstants.{MAX_CYCLE_DAYS};
 ghost use Rattle.rr_days.specs.Sequence.{sketch};
 ghost use Rattle.rr_answer.specs.Answer.{IsSaidBeside};
-ghost use Rattle.rr_answer.specs.Command.{HasDurations};
 ghost use Rattle.rr_answer.specs.Folding.{IsFromYearOneOn};
 ghost use Rattle.rr_answer.specs.OperandReading.{IsSubjectRead};
 ghost use Rattle.rr_answer.specs.Outcome.{answer_of};
 ghost use Rattle.rr_answer.specs.Parsed.{words_of};
 ghost use Rattle.rr_answer.specs.Reply.{reply_is};
 ghost use Rattle.rr_answer.specs.declared.command.Inquiry.TheVariants.{Clash};
-ghost use Rattle.rr_answer.specs.declared.command.TheConstants.{MAX_DURATION};
 ghost use Rattle.rr_booking.specs.Beside.{IsSaidOfAllBeside};
 ghost use Rattle.rr_booking.specs.Booking.{IsBookingAnswer, IsBookingSaid, booking_of, usage};
 ghost use Rattle.rr_booking.specs.Parsed.{all_in, booking_in, other_in};
@@ -18,7 +16,9 @@ ghost use Rattle.rr_booking.specs.Parsed.{all_in, booking_in, other_in};
 use crate::request::{Booking, Other};
 use crate::tally::Tally;
 use crate::words::{USAGE, parse};
-use rr_answer::{Inquiry, Outcome, Reply, Status, outcome_beside, outcome_of_fault, read_folded};
+use rr_answer::{
+    Duration, Inquiry, Outcome, Reply, Status, outcome_beside, outcome_of_fault, read_folded,
+};
 use rr_days::Folded;
 use rr_model::{NoMemory, Side};
 use std::alloc::Global;
@@ -44,9 +44,12 @@ fn reply_of(outcome: Outcome) -> Reply
 }
 
 // What is said of one of the others beside the days of the candidate.
-fn said_of(alloc: Global, duration: u32, days: &Folded, other: &Other) -> Result<Outcome, NoMemory>
-    requires some { 1 ≤ duration }
-    requires few { duration ≤ MAX_DURATION }
+fn said_of(
+    alloc: Global,
+    duration: Duration,
+    days: &Folded,
+    other: &Other,
+) -> Result<Outcome, NoMemory>
     requires years { IsFromYearOneOn (sketch days.now) }
     requires short { (sketch days.now).period ≤ MAX_CYCLE_DAYS }
     requires near { (sketch days.now).settled ≤ℤ pos 40_000_000 }
@@ -56,7 +59,7 @@ fn said_of(alloc: Global, duration: u32, days: &Folded, other: &Other) -> Result
 {
     let inquiry = Inquiry::Clash {
         duration_a: duration,
-        duration_b: other.duration,
+        duration_b: Duration::nearest(other.duration),
     };
     outcome_beside(alloc, inquiry, days, other.operand, other.text)
 }
@@ -64,12 +67,10 @@ fn said_of(alloc: Global, duration: u32, days: &Folded, other: &Other) -> Result
 // What is said of each of the others beside the days of the candidate, one line behind the other.
 fn said_of_all(
     alloc: Global,
-    duration: u32,
+    duration: Duration,
     days: &Folded,
     others: &[Other],
 ) -> Result<Reply, NoMemory>
-    requires some { 1 ≤ duration }
-    requires few { duration ≤ MAX_DURATION }
     requires years { IsFromYearOneOn (sketch days.now) }
     requires short { (sketch days.now).period ≤ MAX_CYCLE_DAYS }
     requires near { (sketch days.now).settled ≤ℤ pos 40_000_000 }

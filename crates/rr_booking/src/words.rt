@@ -1,12 +1,11 @@
 // The words of a booking.
 ghost use Rattle.std.specs.Prelude.{◌≡◌, ◌≤◌, length, option_map, IfOk, IfSome};
 ghost use Rattle.rr_answer.specs.Parsed.{operand_in, words_of};
-ghost use Rattle.rr_answer.specs.declared.command.TheConstants.{MAX_DURATION};
 ghost use Rattle.rr_booking.specs.Booking.{booking_of, booking_with, other_of, other_with, others_of};
 ghost use Rattle.rr_booking.specs.Parsed.{booking_in, is_all_read, other_in, others_in, three_in, three_of};
 
 use crate::request::{Booking, MAX_LENGTH, Other};
-use rr_answer::{MAX_DURATION, Operand, number_between, operand_of};
+use rr_answer::{Duration, Operand, number_between, operand_of};
 use rr_model::NoMemory;
 use std::alloc::Global;
 
@@ -15,20 +14,18 @@ pub const USAGE: &[u8] = b"usage: rr_clear_answer D A [E B LENGTH]...\n";
 
 // One of the others, whose text is the first bytes of these; None if they are too few.
 fn other_with<'a>(
-    duration: u32,
+    duration: Duration,
     operand: Operand<'a>,
     size: u64,
     bytes: &'a [u8],
 ) -> Option<Other<'a>>
-    requires some { 1 ≤ duration }
-    requires few { duration ≤ MAX_DURATION }
     ensures value { option_map other_in result
         ≡ other_with duration (operand_in operand.entry) size bytes.now }
     ensures within { IfSome result (λ o. length o.text.now ≤ length bytes.now) }
 {
     if size <= bytes.len() as u64 {
         Some(Other {
-            duration,
+            duration: duration.get(),
             operand,
             text: &bytes[..size as usize],
         })
@@ -43,10 +40,10 @@ fn other_of<'a>(seconds: &str, word: &'a str, count: &str, bytes: &'a [u8]) -> O
         ≡ other_of seconds.now word.now count.now bytes.now }
     ensures within { IfSome result (λ o. length o.text.now ≤ length bytes.now) }
 {
-    let duration = number_between(1, MAX_DURATION, seconds)?;
+    let duration = Duration::read(seconds)?;
     let operand = operand_of(word)?;
     let size = number_between(0, MAX_LENGTH, count)?;
-    other_with(duration as u32, operand, size, bytes)
+    other_with(duration, operand, size, bytes)
 }
 
 // The words of one of the others.
@@ -112,13 +109,11 @@ fn others_of<'a>(
 // The booking of a candidate, with the words of the others.
 fn booking_with<'a>(
     alloc: Global,
-    duration: u32,
+    duration: Duration,
     candidate: Operand<'a>,
     words: &[&'a str],
     bytes: &'a [u8],
 ) -> Result<Option<Booking<'a>>, NoMemory>
-    requires some { 1 ≤ duration }
-    requires few { duration ≤ MAX_DURATION }
     ensures { IfOk result (λ x. option_map booking_in x
         ≡ booking_with duration (operand_in candidate.entry) (words_of words.now) bytes.now) }
 {
@@ -147,11 +142,11 @@ pub fn parse<'a>(
     let [seconds, word, others @ ..] = words else {
         return Ok(None);
     };
-    let Some(duration) = number_between(1, MAX_DURATION, seconds) else {
+    let Some(duration) = Duration::read(seconds) else {
         return Ok(None);
     };
     let Some(candidate) = operand_of(word) else {
         return Ok(None);
     };
-    booking_with(alloc, duration as u32, candidate, others, bytes)
+    booking_with(alloc, duration, candidate, others, bytes)
 }

@@ -32,7 +32,7 @@ fn booking_reply(
 /// empty. The candidate is read and folded once.
 ///
 /// It returns 0 if the candidate is clear of all, 1 if it clashes with one, 2 if it clashes with none but it or one of the others is refused, 3 for other
-/// words or if the lengths do not add up to the bytes of the others, 6 out of memory, and 7 for words that are no text. It returns 8 where `out` is too
+/// words or if the lengths do not add up to the bytes of the others, 6 out of memory, and 7 for words that are no text. It returns 8 if `out` is too
 /// small: then `length` is how many bytes the answer has. After 6, 7 and 8 `out` is as it was, and after 6 and 7 `length` is 0.
 #[unsafe(no_mangle)]
 pub extern "C" fn rr_clear_answer(

@@ -24,7 +24,7 @@ fn outcome_of(alloc: Global, words: &str, old: &[u8], new: &[u8]) -> Result<Outc
 /// defines zones stands in one of the two.
 ///
 /// It returns the program's exit status: 0 if all events are equal, 1 if one differs or stands in one file alone, 2 if none does but one or a
-/// file is refused, 3 for other words, 6 out of memory, and 7 for words that are no text. It returns 8 where `out` is too small: then
+/// file is refused, 3 for other words, 6 out of memory, and 7 for words that are no text. It returns 8 if `out` is too small: then
 /// `length` is how many bytes the answer has. After 6, 7 and 8 `out` is as it was, and after 6 and 7 `length` is 0.
 #[unsafe(no_mangle)]
 pub extern "C" fn rr_calendars_answer(

@@ -2,10 +2,10 @@
 ghost use Rattle.std.specs.Prelude.{◌≡◌, ◌++◌, ◌<◌, length, drop, IsTrue, IsFalse};
 ghost use Rattle.rr_c.specs.Returned.{IsLeft};
 
-/// The number returned where the words are no text in UTF-8: the programs' exit status for such words.
+/// The number returned if the words are no text in UTF-8: the programs' exit status for such words.
 pub const NO_TEXT: u32 = 7;
 
-/// The number returned where the answer has more bytes than the room.
+/// The number returned if the answer has more bytes than the room.
 pub const TOO_SMALL: u32 = 8;
 
 // Puts the bytes at the front of a room that has enough of them, and says whether it has.

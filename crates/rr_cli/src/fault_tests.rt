@@ -1,4 +1,4 @@
-// What no built program can show: which fetch or which put fails, and after how many bytes of the answer. What is put where nothing fails
+// What no built program can show: which fetch or which put fails, and after how many bytes of the answer. What is put if nothing fails
 // is tried on the built program, by tests/run.
 use crate::run;
 use rr_io::{MemorySink, MemorySource};

@@ -8,7 +8,7 @@ use Rattle.rr_answer.proofs.clashes.clash_outcome.Goals as goal
 pub outcome_of_clash-requires : goal.outcome_of_clash-requires
 outcome_of_clash-requires c =
     printable_kinds _ _ c.kind-kind_a.result c.kind-kind_b.result c.clear-clash.result c.kind-kind_a.ensures c.kind-kind_b.ensures
-    (printable_clash _ _ c.args.duration_a c.args.duration_b c.clear-clash.result c.requires.a c.requires.b c.clear-clash.ensures.verdict
+    (printable_clash _ _ c.args.duration_a c.args.duration_b c.clear-clash.result c.requires.a c.requires.b (rw (c.get.ensures.value, c.get-2.ensures.value) at c.clear-clash.ensures.verdict)
     c.clear-clash.ensures.day)
 
 pub returns-then-not-together : goal.returns-then-not-together
@@ -24,5 +24,5 @@ returns c =
     IfOk-weaker c.outcome_of_clash.result _ _
     (λ x e s u fold fold'. clash_of_both s u _ _ fold fold' c.args.duration_a c.args.duration_b (answer_of x) few
     (clash_is_said s u _ _ fold fold' c.args.duration_a c.args.duration_b c.kind-kind_a.result c.kind-kind_b.result
-    c.clear-clash.result (answer_of x) c.kind-kind_a.ensures c.kind-kind_b.ensures c.clear-clash.ensures.verdict e))
+    c.clear-clash.result (answer_of x) c.kind-kind_a.ensures c.kind-kind_b.ensures (rw (c.get.ensures.value, c.get-2.ensures.value) at c.clear-clash.ensures.verdict) e))
     c.outcome_of_clash.ensures

@@ -9,11 +9,11 @@ pub outcome_of_differences-requires : goal.outcome_of_differences-requires
 outcome_of_differences-requires c =
     rw c.as_slice.ensures.value
     (printable_differences (sketch c.args.a.now) (sketch c.args.b.now) c.requires.a c.requires.b c.args.count c.in_ok-differences.differences.items
-    c.in_ok-differences.ensures.first c.in_ok-differences.ensures.days)
+    (rw c.get.ensures.value at c.in_ok-differences.ensures.first) c.in_ok-differences.ensures.days)
 
 pub returns : goal.returns
 returns c =
     IfOk-weaker c.outcome_of_differences.result _ _
     (λ x e s u fold fold'. differences_said s u _ _ fold fold' c.args.count c.in_ok-differences.differences.items (answer_of x)
-    c.in_ok-differences.ensures.first (rw c.as_slice.ensures.value at e))
+    (rw c.get.ensures.value at c.in_ok-differences.ensures.first) (rw c.as_slice.ensures.value at e))
     c.outcome_of_differences.ensures

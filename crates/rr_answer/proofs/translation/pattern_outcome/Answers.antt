@@ -1,8 +1,7 @@
 use Rattle.std.proofs.lemmas.Result.{IfOk-weaker}
 use Rattle.rr_fold.specs.Judged.{all_limits}
-use Rattle.rr_model.specs.declared.lang.Lang.TheVariants.{Graph}
 use Rattle.rr_model.specs.declared.verdict.Side.TheVariants.{A}
-use Rattle.rr_answer.specs.Answer.{IsTranslationSaid}
+use Rattle.rr_answer.specs.Answer.{IsPatternSaid}
 use Rattle.rr_answer.specs.OperandReading.{IsSubjectRead}
 use Rattle.rr_answer.specs.Outcome.{answer_of}
 use Rattle.rr_answer.specs.Parsed.{operand_in}
@@ -13,7 +12,7 @@ use Rattle.rr_answer.proofs.translation.pattern_outcome.Goals as goal
 pub returns-in-Err : goal.returns-in-Err
 returns-in-Err c =
     IfOk-weaker c.outcome_of_fault.result _ _
-    (λ x said. fault_said A all_limits (IsSubjectRead (operand_in c.args.operand) c.args.bytes.now) (IsTranslationSaid Graph) c.in-Err.fault (answer_of x)
+    (λ x said. fault_said A all_limits (IsSubjectRead (operand_in c.args.operand) c.args.bytes.now) IsPatternSaid c.in-Err.fault (answer_of x)
     c.in-Err.ensures.refused said)
     c.outcome_of_fault.ensures
 

@@ -12,12 +12,12 @@ outcome_of_times-requires c =
     let s = sketch c.args.days.now in
     rw c.as_slice.ensures.value
     (printable_times s c.kind.result (between (StandsIn s) c.args.from.kind c.args.from.at c.args.to.kind c.args.to.at s.kind) 100_001 c.in_ok-times.times.items
-    c.kind.ensures c.requires.occur (λ t p. p.0) c.in_ok-times.ensures.first c.in_ok-times.ensures.near)
+    c.kind.ensures c.requires.occur (λ t p. p.0) (rw (c.get.ensures.value, c.get-2.ensures.value) at c.in_ok-times.ensures.first) c.in_ok-times.ensures.near)
 
 pub returns : goal.returns
 returns c =
     let s = sketch c.args.days.now in
     IfOk-weaker c.outcome_of_times.result _ _
     (λ x e. times_said (between (StandsIn s) c.args.from.kind c.args.from.at c.args.to.kind c.args.to.at s.kind) c.kind.result s.kind 100_001
-    c.as_slice.result.now c.in_ok-times.times.items (answer_of x) c.kind.ensures c.as_slice.ensures.value refl c.in_ok-times.ensures.first e)
+    c.as_slice.result.now c.in_ok-times.times.items (answer_of x) c.kind.ensures c.as_slice.ensures.value refl (rw (c.get.ensures.value, c.get-2.ensures.value) at c.in_ok-times.ensures.first) e)
     c.outcome_of_times.ensures

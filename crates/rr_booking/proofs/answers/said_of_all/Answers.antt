@@ -2,7 +2,6 @@ use Rattle.std.proofs.Common.{List, ℕ, ◌++◌, ap, ◌∙◌, subst, arith}
 use Rattle.std.proofs.lemmas.List.{at_drop_all}
 use Rattle.rr_days.specs.Sequence.{sketch}
 use Rattle.rr_answer.specs.Outcome.{answer_of}
-use Rattle.rr_answer.specs.Said.{Answer}
 use Rattle.rr_answer.specs.declared.status.Status.{Status}
 use Rattle.rr_booking.specs.Booking.{Other}
 use Rattle.rr_booking.specs.Parsed.{all_in}

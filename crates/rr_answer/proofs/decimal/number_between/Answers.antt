@@ -1,7 +1,7 @@
 use Rattle.std.proofs.Common.{sym, ap, ◌∙◌}
 use Rattle.rr_answer.specs.Command.{number_between}
 use Rattle.rr_answer.proofs.WordLemmas.{number_between-within, number_between-outside}
-use Rattle.rr_answer.proofs.words.number_between.Goals as goal
+use Rattle.rr_answer.proofs.decimal.number_between.Goals as goal
 
 pub returns-then-value-most-clause-number : goal.returns-then-value-most-clause-number
 returns-then-value-most-clause-number c =
