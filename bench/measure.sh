@@ -43,15 +43,16 @@ best() {
     first=$(head -n 1 "$scratch/out")
 }
 
-# measure LIMIT RUNS NAME WORDS..: one line of the table. The limit is in seconds.
+# measure LIMIT RUNS NAME WORDS..: one line of the table. The limit is in seconds; that of the memory in megabytes, if there is one, in
+# `megabytes`.
 measure() {
     limit=$1
     runs=$2
     name=$3
     shift 3
     best "$runs" "$@"
-    awk -v name="$name" -v taken="$least" -v empty="$empty" -v memory="$memory" -v limit="$limit" -v first="$first" 'BEGIN {
-        said = (taken <= limit * 1e9) ? "ok" : "SLOW"
+    awk -v name="$name" -v taken="$least" -v empty="$empty" -v memory="$memory" -v limit="$limit" -v most="${megabytes:-}" -v first="$first" 'BEGIN {
+        said = (taken > limit * 1e9) ? "SLOW" : (most != "" && memory > most * 1024) ? "LARGE" : "ok"
         printf "%-40s %8.3f s %8.0f x %6.0f MB  %-5s %s\n", name, taken / 1e9, taken / empty, memory / 1024, said, first
     }'
 }

@@ -1,6 +1,7 @@
 #!/bin/sh
 # The worst of each kind of input that `rr` takes, found by drawing series and by hand: seconds, the ratio to a run that only prints the
-# usage line, the most memory in megabytes and the output's first line. Whoever serves strangers wants none above ten seconds and 300 MB.
+# usage line, the most memory in megabytes and the output's first line. Whoever serves strangers wants none above ten seconds and 250 MB: a
+# line says SLOW or LARGE where one is.
 # Before days were kept in pages and pairs of sets remembered (release 0.10.0, seconds of one processor): COUNT and a date 4.7 s and 129 MB, its
 # infer 2.6 s; COUNT and a rule 3.2 s and 384 MB; each seventh second 49 s and 197 MB, disjoint from a second later 8 minutes; another set
 # each day 1.5 s and 127 MB, its infer 1.6 s; each 86,399 seconds 0.2 s and 27 MB.
@@ -9,6 +10,7 @@ set -u
 
 . "$(dirname -- "$0")/measure.sh"
 
+megabytes=250
 months=BYMONTH=1,2,3,4,5,6,7,8,9,10,11,12
 every_day=BYDAY=MO,TU,WE,TH,FR,SA,SU
 numbers=$(seq -s , 0 59)
@@ -26,10 +28,13 @@ series dense-later 20240101T000100 "FREQ=MINUTELY;INTERVAL=113;$months"
 series dense-years 20240101 "FREQ=YEARLY;INTERVAL=113;$months;$every_day"
 series last-workdays 20240131 'FREQ=MONTHLY;INTERVAL=113;BYDAY=MO,TU,WE,TH,FR;BYSETPOS=-1'
 several beside 20240101 'FREQ=MONTHLY;INTERVAL=113' 'FREQ=DAILY'
-# another time set on each of 16.5 million days, whose canonical texts have 132 to 200 megabytes
+# another time set on each of 16.5 million days, whose canonical texts have 132 to 330 megabytes
 several hours 20240101T000000 'FREQ=MONTHLY;INTERVAL=113' 'FREQ=HOURLY;INTERVAL=7'
 several minutes 20240101T000000 "FREQ=SECONDLY;INTERVAL=113;$months" 'FREQ=MONTHLY;INTERVAL=113'
 series counted-seconds 20240101T000000 'FREQ=SECONDLY;INTERVAL=86399;COUNT=16777000'
+several seconds-and-hours 20240101T000000 'FREQ=SECONDLY;INTERVAL=86399' 'FREQ=HOURLY;INTERVAL=23;BYDAY=MO,TU'
+several minutes-and-days 20240101T000000 'FREQ=MINUTELY;INTERVAL=1441' 'FREQ=DAILY;INTERVAL=9973' 'FREQ=DAILY;COUNT=16777217'
+printf 'RDATE:20231231T000000\n' >>"$scratch/minutes-and-days"
 # the sets of seconds of a day: many, large, and in turns
 series seconds 20240101T000000 'FREQ=SECONDLY;INTERVAL=86399'
 series january 20240101T000000 'FREQ=SECONDLY;BYMONTH=1'
@@ -59,6 +64,8 @@ measure 10 1 'canon, 113 sets that take turns' canon "rrule:$scratch/turns"
 measure 10 1 'canon, seven hours beside a long rule' canon "rrule:$scratch/hours"
 measure 10 1 'canon, 113 seconds beside a long rule' canon "rrule:$scratch/minutes"
 measure 10 1 'canon, a text of 200 megabytes' canon "rrule:$scratch/counted-seconds"
+measure 10 1 'canon, long seconds and hours' canon "rrule:$scratch/seconds-and-hours"
+measure 10 1 'canon, a text of 330 megabytes' canon "rrule:$scratch/minutes-and-days"
 measure 10 1 'equal, counted rules and 10,000 dates' equal "rrule:$scratch/sixteen" "rrule:$scratch/sixteen"
 measure 10 1 'infer, 582 leap days and a date' infer "rrule:$scratch/leap-days"
 { echo DTSTART:20240101; yes RDATE:20240102 | head -n 10000; yes "X-NOTE:$numbers" | head -n 4900; } >"$scratch/megabyte"

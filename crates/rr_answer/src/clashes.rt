@@ -10,7 +10,7 @@ ghost use Rattle.rr_answer.specs.Verdicts.{IsSaidOfFolds};
 ghost use Rattle.rr_answer.specs.declared.command.Inquiry.TheVariants.{Clash as AskClash};
 
 use crate::conclusion::Conclusion;
-use crate::outcome::{Outcome, outcome_of_refusal};
+use crate::outcome::{AnswerText, Outcome, outcome_of_refusal};
 use crate::quantities::Duration;
 use crate::verdicts::repeat_together;
 use rr_days::Folded;
@@ -57,11 +57,11 @@ fn outcome_of_clash(
     match clash {
         Clash::Yes => Ok(Outcome {
             conclusion: Conclusion::Yes,
-            text: Vec::from_slice(alloc, b"yes\n")?,
+            text: AnswerText::Bytes(Vec::from_slice(alloc, b"yes\n")?),
         }),
         Clash::No { at, a, b } => Ok(Outcome {
             conclusion: Conclusion::No,
-            text: clash_text(alloc, at, kind_a, a, kind_b, b)?,
+            text: AnswerText::Bytes(clash_text(alloc, at, kind_a, a, kind_b, b)?),
         }),
     }
 }

@@ -8,7 +8,7 @@ ghost use Rattle.rr_answer.specs.declared.command.Inquiry.TheVariants.{Combine};
 
 use crate::canon::canonical_text;
 use crate::conclusion::Conclusion;
-use crate::outcome::{Outcome, outcome_of_fault, outcome_of_refusal};
+use crate::outcome::{AnswerText, Outcome, outcome_of_fault, outcome_of_refusal};
 use crate::verdicts::repeat_together;
 use rr_algebra::{Op, combine};
 use rr_canon::Version;
@@ -34,7 +34,7 @@ pub fn combined_outcome(alloc: Global, op: Op, a: &Folded, b: &Folded) -> Result
         Err(fault) => outcome_of_fault(alloc, Side::Both, fault),
         Ok(days) => Ok(Outcome {
             conclusion: Conclusion::Yes,
-            text: canonical_text(alloc, Version::Second, days)?,
+            text: AnswerText::Canonical(canonical_text(alloc, Version::Second, days)?),
         }),
     }
 }

@@ -11,7 +11,7 @@ ghost use Rattle.rr_answer.specs.Verdicts.{IsSaidOfFolds};
 ghost use Rattle.rr_answer.specs.declared.command.Inquiry.TheVariants.{Differences};
 
 use crate::conclusion::Conclusion;
-use crate::outcome::Outcome;
+use crate::outcome::{AnswerText, Outcome};
 use crate::quantities::DifferenceCount;
 use rr_days::Folded;
 use rr_differ::{Difference, first_differences};
@@ -54,7 +54,10 @@ fn outcome_of_differences(alloc: Global, differences: &[Difference]) -> Result<O
     } else {
         Conclusion::No
     };
-    Ok(Outcome { conclusion, text })
+    Ok(Outcome {
+        conclusion,
+        text: AnswerText::Bytes(text),
+    })
 }
 
 /// What is said of two series that are within their limits: yes and nothing if they have equal occurrences, otherwise no with the

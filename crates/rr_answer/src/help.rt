@@ -6,7 +6,7 @@ ghost use Rattle.rr_answer.specs.Outcome.{answer_of};
 ghost use Rattle.rr_answer.specs.Parsed.{words_of};
 
 use crate::conclusion::Conclusion;
-use crate::outcome::Outcome;
+use crate::outcome::{AnswerText, Outcome};
 use crate::pages::{HELP, VERSION, explanation_of, help_of};
 use rr_model::NoMemory;
 use std::alloc::Global;
@@ -48,6 +48,6 @@ pub fn page_outcome(alloc: Global, page: &[u8]) -> Result<Outcome, NoMemory>
 {
     Ok(Outcome {
         conclusion: Conclusion::Yes,
-        text: Vec::from_slice(alloc, page)?,
+        text: AnswerText::Bytes(Vec::from_slice(alloc, page)?),
     })
 }

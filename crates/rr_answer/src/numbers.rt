@@ -11,7 +11,7 @@ ghost use Rattle.rr_answer.specs.declared.command.DayTask.TheVariants.{Nth as As
 use crate::command::Operand;
 use crate::conclusion::Conclusion;
 use crate::folding::read_folded;
-use crate::outcome::{Outcome, outcome_of_fault, outcome_of_refusal};
+use crate::outcome::{AnswerText, Outcome, outcome_of_fault, outcome_of_refusal};
 use crate::quantities::{AskedMoment, OccurrenceNumber};
 use rr_days::Folded;
 use rr_model::{NoMemory, Refusal, Side};
@@ -102,12 +102,12 @@ fn outcome_of_nth(alloc: Global, nth: Nth) -> Result<Outcome, NoMemory>
             text.push(b'\n')?;
             Ok(Outcome {
                 conclusion: Conclusion::Yes,
-                text,
+                text: AnswerText::Bytes(text),
             })
         }
         Nth::Fewer => Ok(Outcome {
             conclusion: Conclusion::No,
-            text: Vec::from_slice(alloc, b"none\n")?,
+            text: AnswerText::Bytes(Vec::from_slice(alloc, b"none\n")?),
         }),
         Nth::Past => outcome_of_refusal(alloc, Side::A, Refusal::PastRange),
     }
@@ -134,7 +134,7 @@ fn outcome_of_rank(alloc: Global, rank: u64) -> Result<Outcome, NoMemory>
 {
     Ok(Outcome {
         conclusion: Conclusion::Yes,
-        text: format!(in alloc; "{rank}\n")?.into_bytes(),
+        text: AnswerText::Bytes(format!(in alloc; "{rank}\n")?.into_bytes()),
     })
 }
 

@@ -14,7 +14,7 @@ ghost use Rattle.rr_answer.specs.declared.command.DayTask.TheVariants.{Split, Sp
 use crate::command::Operand;
 use crate::conclusion::Conclusion;
 use crate::folding::read_folded;
-use crate::outcome::{Outcome, outcome_of_fault, outcome_of_refusal};
+use crate::outcome::{AnswerText, Outcome, outcome_of_fault, outcome_of_refusal};
 use crate::quantities::SplitCount;
 use rr_days::Folded;
 use rr_model::{NoMemory, Refusal, Side};
@@ -32,9 +32,10 @@ fn outcome_of_days(alloc: Global, days: Folded, most: SplitCount) -> Result<Outc
     let Some(plan) = search(alloc, days, most.get() as usize)? else {
         return outcome_of_refusal(alloc, Side::A, Refusal::NotSayable);
     };
+    let text = write_plan(alloc, plan.parts.as_slice(), plan.kind, &plan.single)?;
     Ok(Outcome {
         conclusion: Conclusion::Yes,
-        text: write_plan(alloc, plan.parts.as_slice(), plan.kind, &plan.single)?,
+        text: AnswerText::Bytes(text),
     })
 }
 
@@ -65,9 +66,10 @@ fn vcal_outcome_of_days(alloc: Global, days: Folded, most: SplitCount) -> Result
     let Some(plan) = search_vcal(alloc, days, most.get() as usize)? else {
         return outcome_of_refusal(alloc, Side::A, Refusal::NotSayable);
     };
+    let text = write_vcal_plan(alloc, plan.events.as_slice(), plan.kind, &plan.single)?;
     Ok(Outcome {
         conclusion: Conclusion::Yes,
-        text: write_vcal_plan(alloc, plan.events.as_slice(), plan.kind, &plan.single)?,
+        text: AnswerText::Bytes(text),
     })
 }
 

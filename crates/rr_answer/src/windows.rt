@@ -16,7 +16,7 @@ ghost use Rattle.rr_model.specs.declared.limits.TheConstants.{MAX_CYCLE_DAYS};
 use crate::command::Operand;
 use crate::conclusion::Conclusion;
 use crate::folding::read_folded;
-use crate::outcome::{Outcome, outcome_of_fault};
+use crate::outcome::{AnswerText, Outcome, outcome_of_fault};
 use crate::quantities::{AskedMoment, ListCount, MAX_LIST};
 use rr_days::Folded;
 use rr_model::{Kind, NoMemory, Side};
@@ -62,7 +62,7 @@ fn outcome_from(
     let times = first_from(alloc, days, moment.get(), count.get() as usize)?;
     Ok(Outcome {
         conclusion: Conclusion::Yes,
-        text: lines_of(alloc, days.kind(), times.as_slice())?,
+        text: AnswerText::Bytes(lines_of(alloc, days.kind(), times.as_slice())?),
     })
 }
 
@@ -75,12 +75,12 @@ fn outcome_of_times(alloc: Global, kind: Kind, times: &[i64]) -> Result<Outcome,
     if times.len() <= most {
         return Ok(Outcome {
             conclusion: Conclusion::Yes,
-            text: lines_of(alloc, kind, times)?,
+            text: AnswerText::Bytes(lines_of(alloc, kind, times)?),
         });
     }
     Ok(Outcome {
         conclusion: Conclusion::No,
-        text: lines_of(alloc, kind, &times[..most])?,
+        text: AnswerText::Bytes(lines_of(alloc, kind, &times[..most])?),
     })
 }
 

@@ -34,13 +34,13 @@ fn usage_reply(alloc: Global) -> Result<Reply, NoMemory>
 }
 
 // The reply that an outcome is.
-fn reply_of(outcome: Outcome) -> Reply
-    ensures { reply_is result ≡ answer_of outcome }
+fn reply_of(alloc: Global, outcome: Outcome) -> Result<Reply, NoMemory>
+    ensures { IfOk result (λ x. reply_is x ≡ answer_of outcome) }
 {
-    Reply {
+    Ok(Reply {
         status: outcome.conclusion.status(),
-        text: outcome.text,
-    }
+        text: outcome.text.into_bytes(alloc)?,
+    })
 }
 
 // What is said of one of the others beside the days of the candidate.
@@ -84,7 +84,8 @@ fn said_of_all(
     };
     for other in others {
         let said = said_of(alloc, duration, days, other)?;
-        text.extend_from_slice(said.text.as_slice())?;
+        let line = said.text.into_bytes(alloc)?;
+        text.extend_from_slice(line.as_slice())?;
         tally = tally.with(said.conclusion);
     }
     Ok(Reply {
@@ -98,7 +99,7 @@ fn booking_reply(alloc: Global, booking: &Booking, text: &[u8]) -> Result<Reply,
     ensures { IfOk result (λ x. IsBookingSaid (booking_in booking.now) text.now (reply_is x)) }
 {
     match read_folded(alloc, booking.candidate, text) {
-        Err(fault) => Ok(reply_of(outcome_of_fault(alloc, Side::A, fault)?)),
+        Err(fault) => reply_of(alloc, outcome_of_fault(alloc, Side::A, fault)?),
         Ok(days) => said_of_all(alloc, booking.duration, &days, booking.others.as_slice()),
     }
 }

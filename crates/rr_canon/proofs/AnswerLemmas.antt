@@ -13,7 +13,7 @@ use Rattle.rr_model.specs.Sets.Printable.{HasNoneBeforeYearOne, IsTextOf}
 use Rattle.rr_model.proofs.SecondsLemmas.{first_of_some}
 use Rattle.rr_model.proofs.MomentLemmas.{parts_of_moment}
 
--- where no occurrence lies before 0001-01-01, no day before is occupied
+-- if no occurrence lies before 0001-01-01, no day before is occupied
 pub none_before_year_one : (u : Sketch) → IsValidSketch u → ((k : Kind) (t : ℤ) → StandsIn u k t → IsFromYearOne (day_part k t)) → HasNoneBeforeYearOne u
 none_before_year_one u v from d some =
     let w = get_or (times_on u d) 0 0 in

@@ -1,13 +1,14 @@
 -- The text of a descriptor as it is put together.
 use Rattle.std.proofs.Common.{◌≡◌, ℕ, suc, ◌+◌, ◌-◌, ◌<◌, Bool, true, false, ◌==◌, eqb-true, List, [], ◌∷◌, ◌++◌, length, get_or, take, drop, map}
-use Rattle.std.proofs.Common.{append_assoc, ℤ, ◌-ℤ◌, nat_abs, refl, sym, ap, ◌∙◌, arith}
+use Rattle.std.proofs.Common.{append_assoc, Option, Some, None, ℤ, ◌-ℤ◌, nat_abs, refl, sym, ap, ◌∙◌, arith}
 use Rattle.std.proofs.lemmas.List.{append-nil, map-append, take_all}
 use Rattle.std.proofs.Math.Seq.{take-suc, drop-cons}
-use Rattle.rr_model.specs.Sets.Descriptor.{Run, with_step, runs_of}
+use Rattle.rr_model.specs.Sets.Descriptor.{Run, Step, with_step, runs_of}
 use Rattle.rr_model.specs.Sets.DescriptorText.{text_of_lines, run_line, ending_lines, fields}
 use Rattle.rr_model.specs.Text.Moments.{extended_date_text}
 use Rattle.rr_word.specs.declared.numbered.NumberedDay.{NumberedDay}
-use Rattle.rr_canon.specs.Said.{steps_by_number, with_run, text_of_runs, IsNextRun, ending_said}
+use Rattle.rr_canon.specs.Dates.{first_text, settled_text}
+use Rattle.rr_canon.specs.Said.{steps_by_number, with_run, text_of_runs, IsNextRun, ending_said, first_in}
 use Rattle.rr_canon.proofs.LineLemmas.{text_of_lines-append}
 use Rattle.rr_canon.proofs.RunLemmas.{run_goes_on, run_ends, with_run-with_step}
 
@@ -31,6 +32,14 @@ next_new letter g n k g' n' old new differ e = record {
       ∙ ap (λ t. old ++ t) (sym (text_of_lines-append (line ∷ []) (map (run_line letter) rest)))
       ∙ ap (λ r. old ++ text_of_runs letter r) (sym (run_ends g n k g' n' rs differ));
   longer = omega arith;
+}
+
+-- the same after any bytes
+pub next_after : (letter : ℕ) (run next : Run) (step : Step) (old bytes : List ℕ) → IsNextRun letter run step [] bytes next
+    → IsNextRun letter run step old (old ++ bytes) next
+next_after letter run next step old bytes h = record {
+  same = λ rs. append_assoc old bytes (text_of_runs letter (with_run next rs)) ∙ ap (λ t. old ++ t) (h.same rs);
+  longer = h.longer;
 }
 
 -- the step of the next day
@@ -122,15 +131,23 @@ pub next_of_drop : {X : Type 0} (xs : List X) (k : ℕ) (d : X) → k < length x
 next_of_drop xs k d l = let e : k + 1 ≡ suc k = omega arith in drop-cons xs k d l ∙ ap (λ n. get_or xs k d ∷ drop n xs) (sym e)
 
 -- the ending of a cycle that is not empty
-pub some_ending : (settled : ℤ) (period : ℕ) (cycle : List NumberedDay) (day : List ℕ) (old mid new : List ℕ) → 0 < length cycle
-    → mid ≡ old ++ text_of_lines ((113 ∷ 32 ∷ extended_date_text settled ++ fields (period ∷ [])) ∷ [])
-    → new ≡ mid ++ text_of_runs 99 (runs_of (steps_by_number settled cycle)) → new ≡ old ++ text_of_lines (ending_lines (ending_said settled period cycle))
-some_ending settled period [] day old mid new h e f = absurd (omega arith)
-some_ending settled period (c ∷ cs) day old mid new h e f =
+pub some_ending : (settled : ℤ) (period : ℕ) (cycle : List NumberedDay) (day : List ℕ) → 0 < length cycle → day ≡ settled_text settled cycle
+    → text_of_lines ((113 ∷ 32 ∷ day ++ fields (period ∷ [])) ∷ []) ++ text_of_runs 99 (runs_of (steps_by_number settled cycle))
+    ≡ text_of_lines (ending_lines (ending_said settled period cycle))
+some_ending settled period [] day h e = absurd (omega arith)
+some_ending settled period (c ∷ cs) day h e =
     let line = 113 ∷ 32 ∷ extended_date_text settled ++ fields (period ∷ []) in
     let runs = map (run_line 99) (runs_of (steps_by_number settled (c ∷ cs))) in
-    f ∙ ap (λ o. o ++ text_of_lines runs) e ∙ append_assoc old (text_of_lines (line ∷ [])) (text_of_lines runs)
-    ∙ ap (λ t. old ++ t) (sym (text_of_lines-append (line ∷ []) runs))
+    ap (λ d. text_of_lines ((113 ∷ 32 ∷ d ++ fields (period ∷ [])) ∷ []) ++ text_of_lines runs) e ∙ sym (text_of_lines-append (line ∷ []) runs)
+
+-- the text of the first day
+pub text_of_first : (days : List NumberedDay) (first : ℤ) → Some first ≡ first_in days → first_text days ≡ extended_date_text first
+text_of_first [] first e = absurd (cc)
+text_of_first (x ∷ xs) first e = ap extended_date_text (sym (ap (or_that first) e))
+  where
+    or_that : ℤ → Option ℤ → ℤ
+    or_that z None = z
+    or_that z (Some y) = y
 
 -- ---- the whole
 

@@ -9,6 +9,7 @@ pub mod AnswerLemmas
 pub mod SecondsStretchLemmas
 pub mod KeptLemmas
 pub mod RunLemmas
+pub mod AppendLemmas
 pub mod LineLemmas
 pub mod DescribeLemmas
 pub mod SaidLemmas

@@ -270,7 +270,7 @@ module _ (s : Sketch) (d : IsDescribable s) where
       let after = a.start.not_before in
       ending_printed s.cycle (omega (arith, ints)) few_cycle fair_cycle (All-back (λ (x : DayShape). IsKnown (sets_of s) x.times) s.before s.cycle (known_of s))
 
-  -- where some day repeats, the settled day can be printed
+  -- if some day repeats, the settled day can be printed
   pub settled_printed : (s.cycle ≡ [] → ⊥) → IsPrintedDay s.settled
   settled_printed some =
       elim d.least.form [

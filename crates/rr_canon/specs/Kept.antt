@@ -43,7 +43,7 @@ pub record AreStretchOf (s : Sketch) (from : ℤ) (n : ℕ) (old new : List (Lis
   pub sets : new ≡ with_sets_of old (day_shapes s from n)
   pub numbers : days ≡ numbered_days new (day_shapes s from n)
 
--- one day was added, where it has seconds
+-- one day was added, if it has seconds
 pub record IsPutDay (day : ℤ) (times : List ℕ) (old_sets new_sets : List (List ℕ)) (old new : List NumberedDay) : Type 0 where
   pub sets : new_sets ≡ with_sets_of old_sets (shape_if_some day times)
   pub numbers : new ≡ old ++ numbered_days new_sets (shape_if_some day times)

@@ -14,6 +14,6 @@ least_sketch l = sketch_of l.kind l.sets l.before l.settled l.period l.cycle
 abbrev pub least_number : LeastSeq → ℤ → Option ℕ
 least_number l day = number_kept l.before l.settled l.period l.cycle day
 
--- what a descriptor says of it, where this is the first occupied day
+-- what a descriptor says of it, if this is the first occupied day
 abbrev pub least_said : LeastSeq → Option ℤ → Option Described
 least_said l first = said_of l.kind l.sets l.before l.settled l.period l.cycle first

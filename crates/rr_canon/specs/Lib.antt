@@ -1,5 +1,7 @@
+pub mod Dates
 pub mod Kept
 pub mod Least
+pub mod Pieces
 pub mod Placed
 pub mod Said
 pub mod Written

@@ -19,12 +19,12 @@ abbrev pub ending_said : ℤ → ℕ → List NumberedDay → Option Ending
 ending_said settled period [] = None
 ending_said settled period (x ∷ xs) = Some (record { settled = settled; period = period; cycle = runs_by_number settled (x ∷ xs) })
 
--- the first day of all, where there is one
+-- the first day of all, if there is one
 abbrev pub first_in : List NumberedDay → Option ℤ
 first_in [] = None
 first_in (x ∷ xs) = Some x.day
 
--- what a descriptor says of the days kept, none where no day is occupied
+-- what a descriptor says of the days kept, none if no day is occupied
 abbrev pub said_of : Kind → List (List ℕ) → List NumberedDay → ℤ → ℕ → List NumberedDay → Option ℤ → Option Described
 said_of kind sets before settled period cycle None = None
 said_of kind sets before settled period cycle (Some first) =
@@ -38,7 +38,7 @@ said_of kind sets before settled period cycle (Some first) =
 
 -- ---- a run that is still open
 
--- the run in front of others, one with the first of them where that is of the same step
+-- the run in front of others, one with the first of them if that is of the same step
 abbrev pub with_run : Run → List Run → List Run
 with_run run [] = run ∷ []
 with_run run (r ∷ rs) =

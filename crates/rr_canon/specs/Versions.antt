@@ -29,7 +29,7 @@ lines_in version said = lines_of (set_line_of version) said
 abbrev pub text_in : Version → Sketch → List ℕ
 text_in version s = text_of (title_of version) (set_line_of version) (descriptor s)
 
--- Texts of two series in this version are equal exactly where the series have equal occurrences.
+-- Texts of two series in this version are equal exactly if the series have equal occurrences.
 abbrev pub TextsAreEqualExactly : Version → Type 0
 TextsAreEqualExactly version =
     (s u : Series) (a b : List ℕ) → IsTextOf (text_in version) (Occurs s) a → IsTextOf (text_in version) (Occurs u) b

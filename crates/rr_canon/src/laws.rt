@@ -8,12 +8,12 @@ ghost use Rattle.rr_canon.specs.Years.{OccursFromYearOne};
 
 use crate::version::Version;
 
-/// Texts of the first version are equal exactly where the sets have equal occurrences.
+/// Texts of the first version are equal exactly if the sets have equal occurrences.
 pub fn descriptor_tells_sets_apart()
     ensures { TellsSetsApart descriptor_text }
 {}
 
-/// Texts of the second version are equal exactly where the sets have equal occurrences.
+/// Texts of the second version are equal exactly if the sets have equal occurrences.
 pub fn second_version_tells_sets_apart()
     ensures { TellsSetsApart second_descriptor_text }
 {}
@@ -23,7 +23,7 @@ pub fn descriptors_read_back()
     ensures { DescriptorsReadBack }
 {}
 
-/// Canonical texts of two series, both of the first version or both of the second, are equal exactly where the series have equal
+/// Canonical texts of two series, both of the first version or both of the second, are equal exactly if the series have equal
 /// occurrences.
 pub fn canon_is_equal_exactly()
     ensures first { CanonIsEqualExactly }

@@ -1,18 +1,18 @@
 // The lines of a descriptor.
-ghost use Rattle.std.specs.Prelude.{◌≡◌, ◌+◌, ◌≤◌, ◌∷◌, [], ◌++◌, OnOk, OnErr, codes, map, neg_ℤ, pos, ◌≤ℤ◌};
+ghost use Rattle.std.specs.Prelude.{◌≡◌, ◌+◌, ◌≤◌, ◌∷◌, [], ◌++◌, OnOk, codes, map};
 ghost use Rattle.std.specs.Fmt.{decimal};
-ghost use Rattle.rr_model.specs.Text.Moments.{extended_date_text};
-ghost use Rattle.rr_model.specs.Sets.DescriptorText.{kind_line, seconds_line, first_line, run_line};
+ghost use Rattle.std.specs.Io.KnownBytes.{Appends};
+ghost use Rattle.rr_model.specs.Sets.DescriptorText.{fields, kind_line, seconds_line, run_line};
 ghost use Rattle.rr_model.specs.Sets.Stretches.{item_text, stretches_line};
 ghost use Rattle.rr_times.specs.Items.{stretch_of};
 ghost use Rattle.rr_canon.specs.Versions.{set_line_of};
-ghost use Rattle.rr_canon.specs.Written.{AddsLine, run_so_far, settled_line_of};
-ghost use Rattle.rr_model.specs.Sets.Printable.{IsPrintedDay};
+ghost use Rattle.rr_canon.specs.Written.{WritesLine, run_so_far};
 
 use crate::version::Version;
-use rr_model::{Kind, NoMemory};
-use rr_text::{push_extended, push_unsigned};
+use itoa::Buffer;
+use rr_model::Kind;
 use rr_times::{Stretch, TimeSet};
+use std::io::{self, Write};
 
 /// `count` days so far, each `gap` days after the one before it, with one time set.
 #[derive(Clone, Copy)]
@@ -21,140 +21,124 @@ pub struct OpenRun {
     pub gap: u64,
     /// The number of its time set.
     pub set: u32,
-    /// How many days.
+    /// How many days it has so far.
     pub count: u64,
 }
 
-/// A line, and a line feed.
+/// Writes a line and the line feed that ends it.
 #[tactic(auto, unfolding(rr_model::specs::Sets::DescriptorText::text_of_lines))]
-pub fn push_line(out: &mut Vec<u8>, line: &[u8]) -> Result<(), NoMemory>
-    ensures { OnOk result (AddsLine out.old.items out.new.items line.now) }
+pub fn write_line<W: Write>(out: &mut W, line: &[u8]) -> io::Result<()>
+    ensures { OnOk result (WritesLine (W.contents out.old) (W.contents out.new) line.now) }
 {
-    out.extend_from_slice(line)?;
-    out.push(b'\n')?;
-    Ok(())
+    out.write_all(line)?;
+    out.write_all(b"\n")
 }
 
-// A number after a blank.
-fn push_field(out: &mut Vec<u8>, number: u64) -> Result<(), NoMemory>
-    ensures { OnOk result (out.new.items ≡ out.old.items ++ (32 ∷ decimal number)) }
+// Writes a number after this byte.
+fn write_part<W: Write>(out: &mut W, before: u8, number: u64) -> io::Result<()>
+    ensures { OnOk result (Appends (W.contents out.old) (W.contents out.new)
+        (before ∷ decimal number)) }
 {
-    out.push(b' ')?;
-    push_unsigned(out, number)
+    if number < 10 {
+        return out.write_all(&[before, b'0' + number as u8]);
+    }
+    let mut buffer = Buffer::new();
+    out.write_all(&[before])?;
+    out.write_all(buffer.format(number).as_bytes())
 }
 
-/// Appends the line of a run: the letter, how many days each of its days lies after the one before it, the number of their time
+/// Writes the line of a run: the letter, how many days each of its days lies after the one before it, the number of their time
 /// set, and how many days they are, each number after a blank.
-pub fn push_run(out: &mut Vec<u8>, letter: u8, run: OpenRun) -> Result<(), NoMemory>
-    ensures { OnOk result (AddsLine out.old.items out.new.items
+pub fn write_run<W: Write>(out: &mut W, letter: u8, run: OpenRun) -> io::Result<()>
+    ensures { OnOk result (WritesLine (W.contents out.old) (W.contents out.new)
         (run_line letter (run_so_far run))) }
 {
-    out.push(letter)?;
-    push_field(out, run.gap)?;
-    push_field(out, u64::from(run.set))?;
-    push_field(out, run.count)?;
-    out.push(b'\n')?;
-    Ok(())
+    out.write_all(&[letter])?;
+    write_part(out, b' ', run.gap)?;
+    write_part(out, b' ', u64::from(run.set))?;
+    write_part(out, b' ', run.count)?;
+    out.write_all(b"\n")
 }
 
-/// `t` and the seconds of a time set.
-pub fn push_seconds(out: &mut Vec<u8>, times: &[u32]) -> Result<(), NoMemory>
-    ensures { OnOk result (AddsLine out.old.items out.new.items (seconds_line times.now)) }
+/// Writes the line of a time set in version 1: `t` and each of its seconds after a blank.
+pub fn write_seconds<W: Write>(out: &mut W, times: &[u32]) -> io::Result<()>
+    ensures { OnOk result (WritesLine (W.contents out.old) (W.contents out.new)
+        (seconds_line times.now)) }
 {
-    out.push(b't')?;
+    out.write_all(b"t")?;
     for second in times {
-        push_field(out, u64::from(*second))?;
+        write_part(out, b' ', u64::from(*second))?;
     }
-    out.push(b'\n')?;
-    Ok(())
+    out.write_all(b"\n")
 }
 
-// A number after this byte.
-fn push_part(out: &mut Vec<u8>, before: u8, number: u32) -> Result<(), NoMemory>
-    ensures { OnOk result (out.new.items ≡ out.old.items ++ (before ∷ decimal number)) }
+// Writes a blank, and a second alone or a row of seconds.
+fn write_item<W: Write>(out: &mut W, item: Stretch) -> io::Result<()>
+    ensures { OnOk result (Appends (W.contents out.old) (W.contents out.new)
+        (32 ∷ item_text (stretch_of item))) }
 {
-    out.push(before)?;
-    push_unsigned(out, u64::from(number))
-}
-
-// A blank, and a second alone or a row of seconds.
-fn push_item(out: &mut Vec<u8>, item: Stretch) -> Result<(), NoMemory>
-    ensures { OnOk result (out.new.items ≡ out.old.items ++ (32 ∷ item_text (stretch_of item))) }
-{
-    push_part(out, b' ', item.start)?;
+    write_part(out, b' ', u64::from(item.start))?;
     if item.count == 1 {
         return Ok(());
     }
-    push_part(out, b'/', item.step)?;
-    push_part(out, b'/', item.count)
+    write_part(out, b'/', u64::from(item.step))?;
+    write_part(out, b'/', u64::from(item.count))
 }
 
-/// `t` and the items of a time set, single seconds and rows of equal steps: a line of version 2.
-pub fn push_stretches(out: &mut Vec<u8>, times: &TimeSet) -> Result<(), NoMemory>
-    ensures { OnOk result (AddsLine out.old.items out.new.items (stretches_line times.now)) }
+/// Writes the line of a time set in version 2: `t` and its items after a blank each, single seconds and rows of equal steps.
+pub fn write_stretches<W: Write>(out: &mut W, times: &TimeSet) -> io::Result<()>
+    ensures { OnOk result (WritesLine (W.contents out.old) (W.contents out.new)
+        (stretches_line times.now)) }
 {
     let count = times.as_slice().len();
-    out.push(b't')?;
+    out.write_all(b"t")?;
     let mut from = 0;
     while from < count {
         let item = times.stretch(from);
-        push_item(out, item)?;
+        write_item(out, item)?;
         from += item.count as usize;
     }
-    out.push(b'\n')?;
-    Ok(())
+    out.write_all(b"\n")
 }
 
-/// The line of a time set in this version.
-pub fn push_set(out: &mut Vec<u8>, version: Version, times: &TimeSet) -> Result<(), NoMemory>
-    ensures { OnOk result (AddsLine out.old.items out.new.items (set_line_of version times.now)) }
+/// Writes the line of a time set in this version.
+pub fn write_set<W: Write>(out: &mut W, version: Version, times: &TimeSet) -> io::Result<()>
+    ensures { OnOk result (WritesLine (W.contents out.old) (W.contents out.new)
+        (set_line_of version times.now)) }
 {
     match version {
-        Version::First => push_seconds(out, times.as_slice()),
-        Version::Second => push_stretches(out, times),
+        Version::First => write_seconds(out, times.as_slice()),
+        Version::Second => write_stretches(out, times),
     }
 }
 
-/// The kind.
-pub fn push_kind(out: &mut Vec<u8>, kind: Kind) -> Result<(), NoMemory>
-    ensures { OnOk result (AddsLine out.old.items out.new.items (kind_line kind)) }
+/// Writes the line that says whether the occurrences are dates or moments.
+pub fn write_kind<W: Write>(out: &mut W, kind: Kind) -> io::Result<()>
+    ensures { OnOk result (WritesLine (W.contents out.old) (W.contents out.new) (kind_line kind)) }
 {
     match kind {
-        Kind::Days => push_line(out, b"days"),
-        Kind::Moments => push_line(out, b"moments"),
+        Kind::Days => write_line(out, b"days"),
+        Kind::Moments => write_line(out, b"moments"),
     }
 }
 
-// A day after a letter and a blank.
-#[tactic(auto, unfolding(rr_model::specs::Text::Moments::extended_text))]
-fn push_day(out: &mut Vec<u8>, letter: u8, day: i64) -> Result<(), NoMemory>
-    requires { IsPrintedDay day }
-    ensures { OnOk result (out.new.items
-        ≡ out.old.items ++ (letter ∷ 32 ∷ extended_date_text day)) }
-{
-    out.push(letter)?;
-    out.push(b' ')?;
-    push_extended(out, Kind::Days, day)
-}
-
-/// `f` and the first occupied day.
+/// Writes the line of the first occupied day: `f` and the text of that day.
 #[tactic(auto, unfolding(rr_model::specs::Sets::DescriptorText::text_of_lines))]
-pub fn push_first(out: &mut Vec<u8>, day: i64) -> Result<(), NoMemory>
-    requires { IsPrintedDay day }
-    ensures { OnOk result (AddsLine out.old.items out.new.items (first_line day)) }
+pub fn write_first<W: Write>(out: &mut W, day: &[u8]) -> io::Result<()>
+    ensures { OnOk result (WritesLine (W.contents out.old) (W.contents out.new)
+        (102 ∷ 32 ∷ day.now)) }
 {
-    push_day(out, b'f', day)?;
-    out.push(b'\n')?;
-    Ok(())
+    out.write_all(b"f ")?;
+    write_line(out, day)
 }
 
-/// `q`, the settled day and the period.
-pub fn push_settled(out: &mut Vec<u8>, day: i64, period: u64) -> Result<(), NoMemory>
-    requires { IsPrintedDay day }
-    ensures { OnOk result (AddsLine out.old.items out.new.items (settled_line_of day period)) }
+/// Writes the line after which days repeat: `q`, the text of the settled day and the period in days.
+pub fn write_settled<W: Write>(out: &mut W, day: &[u8], period: u64) -> io::Result<()>
+    ensures { OnOk result (WritesLine (W.contents out.old) (W.contents out.new)
+        (113 ∷ 32 ∷ day.now ++ fields (period ∷ []))) }
 {
-    push_day(out, b'q', day)?;
-    push_field(out, period)?;
-    out.push(b'\n')?;
-    Ok(())
+    out.write_all(b"q ")?;
+    out.write_all(day)?;
+    write_part(out, b' ', period)?;
+    out.write_all(b"\n")
 }

@@ -33,7 +33,7 @@ impl OwnNumbers {
         }
     }
 
-    // The number of the set with this own number, where it is known.
+    // The number of the set with this own number, if it is known.
     fn number(&self, own: u32) -> Option<u32>
         ensures { IfSome result (λ n. get_or self.now.known.items own None ≡ Some n) }
     {
@@ -79,7 +79,7 @@ fn put_numbered(day: i64, number: u32, days: &mut NumberedDays) -> Result<(), No
     })
 }
 
-// The number of the set of these seconds, which is added where it is new.
+// The number of the set of these seconds, which is added if it is new.
 fn add_set(alloc: Global, times: &[u32], sets: &mut TimeSets) -> Result<u32, NoMemory>
     requires of_day { IsSecondsOfDay times.now }
     requires few { length sets.old < 4_294_967_295 }
@@ -91,7 +91,7 @@ fn add_set(alloc: Global, times: &[u32], sets: &mut TimeSets) -> Result<u32, NoM
     Ok(number as u32)
 }
 
-// Adds a day, where it has seconds, by the sequence's own number for its set.
+// Adds a day, if it has seconds, by the sequence's own number for its set.
 fn put_own<A: DaySeq>(
     alloc: Global,
     seq: &A,
@@ -165,7 +165,7 @@ fn count_empty(numbers: &[u32], empty: Option<u32>) -> usize
     }
 }
 
-// How many days from one on, of at most `most`, are known at once to be free, where the numbers of the first ones may have been read.
+// How many days from one on, of at most `most`, are known at once to be free; the numbers of the first ones may have been read.
 fn free_ahead<A: DaySeq>(seq: &A, day: i64, most: u64, rest: &[u32], empty: Option<u32>) -> u64
     requires low { earliest_near ≤ℤ day }
     requires end { (day +ℤ pos most) ≤ℤ pos 2_000_000_000 }
@@ -193,7 +193,7 @@ fn left_after(rest: &[u32], passed: u64) -> &[u32]
     }
 }
 
-// Adds a day, where it has seconds, by its number.
+// Adds a day, if it has seconds, by its number.
 fn put_day<A: DaySeq>(
     alloc: Global,
     seq: &A,
@@ -219,7 +219,7 @@ fn put_day<A: DaySeq>(
     }
 }
 
-/// The occupied ones of the `count` days from `from` on, with the numbers of their time sets, which are added where they are new.
+/// The occupied ones of the `count` days from `from` on, with the numbers of their time sets, which are added if they are new.
 ///
 /// The seconds of each of the sequence's own sets are read once, and not on each day; so are the numbers of days in a row. Free
 /// days are passed over: those of a row by their numbers, and others as far as the sequence knows of them.

@@ -1,22 +1,25 @@
 // The descriptor of a least sketch.
 ghost use Rattle.std.specs.Prelude.{◌≡◌, ◌↔◌, ◌<◌, ◌≤◌, ◌++◌, [], IfOk, IsTrue, OnOk, Some, map};
+ghost use Rattle.std.specs.Io.KnownBytes.{Appends};
 ghost use Rattle.rr_model.specs.declared.kind.Kind.{Kind};
 ghost use Rattle.rr_model.specs.Sets.Descriptor.{descriptor};
-ghost use Rattle.rr_model.specs.Sets.DescriptorText.{descriptor_text, ending_lines, set_lines};
-ghost use Rattle.rr_model.specs.Sets.Printable.{HasNoneBeforeYearOne, IsPrintedDay};
-ghost use Rattle.rr_model.specs.Sets.Stretches.{second_descriptor_text};
+ghost use Rattle.rr_model.specs.Sets.DescriptorText.{ending_lines, set_lines};
+ghost use Rattle.rr_canon.specs.Dates.{AreDayTexts, first_text, settled_text};
 ghost use Rattle.rr_canon.specs.Least.{least_said, least_sketch};
 ghost use Rattle.rr_canon.specs.Said.{IsNextRun, ending_said, first_in, runs_by_number, with_run};
 ghost use Rattle.rr_canon.specs.Versions.{lines_in, set_line_of, text_in, title_of};
-ghost use Rattle.rr_canon.specs.Written.{AddsLines, AddsRuns, run_so_far};
+ghost use Rattle.rr_canon.specs.Written.{WritesLines, WritesNextRun, WritesRuns, run_so_far};
 
+use crate::dates::{DayTexts, first_day};
 use crate::least_seq::LeastSeq;
-use crate::lines::{OpenRun, push_first, push_kind, push_line, push_run, push_set, push_settled};
+use crate::lines::{
+    OpenRun, write_first, write_kind, write_line, write_run, write_set, write_settled,
+};
 use crate::version::Version;
-use rr_model::{Kind, NoMemory};
+use rr_model::Kind;
 use rr_shapes::TimeSets;
 use rr_word::NumberedDay;
-use std::alloc::Global;
+use std::io::{self, Write};
 
 // Whether the step goes on with the run.
 fn goes_on(run: OpenRun, gap: u64, set: u32) -> bool
@@ -25,17 +28,17 @@ fn goes_on(run: OpenRun, gap: u64, set: u32) -> bool
     gap == run.gap && set == run.set
 }
 
-// The run with one more step; a run that ends is added.
-fn next_run(
-    out: &mut Vec<u8>,
+// The run with one more step; a run that ends is written.
+fn next_run<W: Write>(
+    out: &mut W,
     letter: u8,
     run: OpenRun,
     gap: u64,
     set: u32,
-) -> Result<OpenRun, NoMemory>
+) -> io::Result<OpenRun>
     requires { run.count < 18_446_744_073_709_551_615 }
-    ensures { IfOk result (λ r. IsNextRun letter (run_so_far run) (record { gap = gap; set = set })
-        out.old.items out.new.items (run_so_far r)) }
+    ensures { IfOk result (λ r. WritesNextRun (W.contents out.old) (W.contents out.new) letter
+        (run_so_far run) (record { gap = gap; set = set }) (run_so_far r)) }
 {
     let same = goes_on(run, gap, set);
     if same {
@@ -45,20 +48,20 @@ fn next_run(
             count: run.count + 1,
         });
     }
-    push_run(out, letter, run)?;
+    write_run(out, letter, run)?;
     Ok(OpenRun { gap, set, count: 1 })
 }
 
-// An open run and the runs over the days that follow, in one pass.
-fn push_more_runs(
-    out: &mut Vec<u8>,
+// Writes an open run and the runs over the days that follow, in one pass.
+fn write_more_runs<W: Write>(
+    out: &mut W,
     letter: u8,
     run: OpenRun,
     from: i64,
     days: &[NumberedDay],
-) -> Result<(), NoMemory>
+) -> io::Result<()>
     requires { run.count ≤ 1 }
-    ensures { OnOk result (AddsRuns out.old.items out.new.items letter
+    ensures { OnOk result (WritesRuns (W.contents out.old) (W.contents out.new) letter
         (with_run (run_so_far run) (runs_by_number from days.now))) }
 {
     let mut current = run;
@@ -68,12 +71,12 @@ fn push_more_runs(
         current = next_run(out, letter, current, at.abs_diff(last), day.number)?;
         last = at;
     }
-    push_run(out, letter, current)
+    write_run(out, letter, current)
 }
 
-// The runs over these days.
-fn push_runs(out: &mut Vec<u8>, letter: u8, from: i64, days: &[NumberedDay]) -> Result<(), NoMemory>
-    ensures { OnOk result (AddsRuns out.old.items out.new.items letter
+// Writes the runs over these days.
+fn write_runs<W: Write>(out: &mut W, letter: u8, from: i64, days: &[NumberedDay]) -> io::Result<()>
+    ensures { OnOk result (WritesRuns (W.contents out.old) (W.contents out.new) letter
         (runs_by_number from days.now)) }
 {
     if days.is_empty() {
@@ -86,95 +89,86 @@ fn push_runs(out: &mut Vec<u8>, letter: u8, from: i64, days: &[NumberedDay]) -> 
         set: first.number,
         count: 1,
     };
-    push_more_runs(out, letter, run, at, &days[1..])
+    write_more_runs(out, letter, run, at, &days[1..])
 }
 
-// The lines of all time sets.
-fn push_all_sets(out: &mut Vec<u8>, version: Version, sets: &TimeSets) -> Result<(), NoMemory>
-    ensures { OnOk result (AddsLines out.old.items out.new.items
+// Writes the lines of all time sets.
+fn write_all_sets<W: Write>(out: &mut W, version: Version, sets: &TimeSets) -> io::Result<()>
+    ensures { OnOk result (WritesLines (W.contents out.old) (W.contents out.new)
         (map (set_line_of version) sets.now)) }
 {
     for number in 0..sets.count() {
-        push_set(out, version, sets.times(number))?;
+        write_set(out, version, sets.times(number))?;
     }
     Ok(())
 }
 
-// The lines of the time sets of moments.
-fn push_sets(
-    out: &mut Vec<u8>,
+// Writes the lines of the time sets of moments. Those of dates have none: they are all alike.
+fn write_sets<W: Write>(
+    out: &mut W,
     version: Version,
     kind: Kind,
     sets: &TimeSets,
-) -> Result<(), NoMemory>
-    ensures { OnOk result (AddsLines out.old.items out.new.items
+) -> io::Result<()>
+    ensures { OnOk result (WritesLines (W.contents out.old) (W.contents out.new)
         (set_lines (set_line_of version) kind sets.now)) }
 {
     match kind {
         Kind::Days => Ok(()),
-        Kind::Moments => push_all_sets(out, version, sets),
+        Kind::Moments => write_all_sets(out, version, sets),
     }
 }
 
-// The settled day, the period and the runs of the first period, where some day repeats.
-fn push_ending(
-    out: &mut Vec<u8>,
-    settled: i64,
-    period: u64,
-    cycle: &[NumberedDay],
-) -> Result<(), NoMemory>
-    requires { (cycle.now ≡ [] → ⊥) → IsPrintedDay settled }
-    ensures { OnOk result (AddsLines out.old.items out.new.items
-        (ending_lines (ending_said settled period cycle.now))) }
+// Writes the settled day with the text of that day, the period and the runs of the first period, if some day repeats.
+fn write_ending<W: Write>(out: &mut W, least: &LeastSeq, day: &[u8]) -> io::Result<()>
+    requires { day.now ≡ settled_text least.now.settled least.now.cycle }
+    ensures { OnOk result (WritesLines (W.contents out.old) (W.contents out.new)
+        (ending_lines (ending_said least.now.settled least.now.period least.now.cycle))) }
 {
+    let cycle = least.cycle.as_slice();
     if cycle.is_empty() {
         return Ok(());
     }
-    push_settled(out, settled, period)?;
-    push_runs(out, b'c', settled, cycle)
+    write_settled(out, day, least.period)?;
+    write_runs(out, b'c', least.settled, cycle)
 }
 
-// The first day of two lists.
-fn first_day(before: &[NumberedDay], cycle: &[NumberedDay]) -> Option<i64>
-    ensures { result ≡ first_in (before.now ++ cycle.now) }
-{
-    if let [day, ..] = before {
-        return Some(i64::from(day.day));
-    }
-    if let [day, ..] = cycle {
-        return Some(i64::from(day.day));
-    }
-    None
-}
-
-// All lines but the first, of a set with occupied days.
-fn push_days(
-    out: &mut Vec<u8>,
+// Writes all lines but the first, of a set with occupied days.
+fn write_days<W: Write>(
+    out: &mut W,
     version: Version,
     least: &LeastSeq,
+    days: &DayTexts,
     first: i64,
-) -> Result<(), NoMemory>
-    requires first { IsPrintedDay first }
-    requires settled { (least.now.cycle ≡ [] → ⊥) → IsPrintedDay least.now.settled }
-    ensures { OnOk result (AddsLines out.old.items out.new.items
+) -> io::Result<()>
+    requires first { Some first ≡ first_in (least.now.before ++ least.now.cycle) }
+    requires days { AreDayTexts least.now.before least.now.cycle least.now.settled
+        days.now.first.items days.now.settled.items }
+    ensures { OnOk result (WritesLines (W.contents out.old) (W.contents out.new)
         (lines_in version (least_said least.now (Some first)))) }
 {
-    push_kind(out, least.kind)?;
-    push_sets(out, version, least.kind, &least.sets)?;
-    push_first(out, first)?;
-    push_runs(out, b'b', first, least.before.as_slice())?;
-    push_ending(out, least.settled, least.period, least.cycle.as_slice())
+    write_kind(out, least.kind)?;
+    write_sets(out, version, least.kind, &least.sets)?;
+    write_first(out, days.first.as_slice())?;
+    write_runs(out, b'b', first, least.before.as_slice())?;
+    write_ending(out, least, days.settled.as_slice())
 }
 
-// All lines but the first.
-fn push_said(out: &mut Vec<u8>, version: Version, least: &LeastSeq) -> Result<(), NoMemory>
-    requires { HasNoneBeforeYearOne (least_sketch least.now) }
-    ensures { OnOk result (AddsLines out.old.items out.new.items
+// Writes all lines but the first.
+fn write_said<W: Write>(
+    out: &mut W,
+    version: Version,
+    least: &LeastSeq,
+    days: &DayTexts,
+) -> io::Result<()>
+    requires { AreDayTexts least.now.before least.now.cycle least.now.settled
+        days.now.first.items days.now.settled.items }
+    ensures { OnOk result (WritesLines (W.contents out.old) (W.contents out.new)
         (lines_in version (descriptor (least_sketch least.now)))) }
 {
     match first_day(least.before.as_slice(), least.cycle.as_slice()) {
-        None => push_line(out, b"none"),
-        Some(first) => push_days(out, version, least, first),
+        None => write_line(out, b"none"),
+        Some(first) => write_days(out, version, least, days, first),
     }
 }
 
@@ -188,33 +182,18 @@ fn title(version: Version) -> &'static [u8]
     }
 }
 
-/// The canonical text of a set in this version.
-///
-/// No occurrence may lie before 0001-01-01. Two sets have equal texts exactly where they have equal occurrences.
-pub fn describe_in(alloc: Global, version: Version, least: &LeastSeq) -> Result<Vec<u8>, NoMemory>
-    requires { HasNoneBeforeYearOne (least_sketch least.now) }
-    ensures { IfOk result (λ out. out.items ≡ text_in version (least_sketch least.now)) }
+/// Writes the canonical text of a set in this version, with the texts of the two days that it names. It takes no memory.
+pub fn write_text<W: Write>(
+    out: &mut W,
+    version: Version,
+    least: &LeastSeq,
+    days: &DayTexts,
+) -> io::Result<()>
+    requires { AreDayTexts least.now.before least.now.cycle least.now.settled
+        days.now.first.items days.now.settled.items }
+    ensures { OnOk result (Appends (W.contents out.old) (W.contents out.new)
+        (text_in version (least_sketch least.now))) }
 {
-    let mut out = Vec::new(alloc);
-    push_line(&mut out, title(version))?;
-    push_said(&mut out, version, least)?;
-    Ok(out)
-}
-
-/// The canonical text of a set: version 2, which writes time sets as rows of equal steps.
-///
-/// No occurrence may lie before 0001-01-01. Two sets have equal texts exactly where they have equal occurrences.
-pub fn describe(alloc: Global, least: &LeastSeq) -> Result<Vec<u8>, NoMemory>
-    requires { HasNoneBeforeYearOne (least_sketch least.now) }
-    ensures { IfOk result (λ out. out.items ≡ second_descriptor_text (least_sketch least.now)) }
-{
-    describe_in(alloc, Version::Second, least)
-}
-
-/// The same in version 1, which writes each second by itself.
-pub fn describe_one(alloc: Global, least: &LeastSeq) -> Result<Vec<u8>, NoMemory>
-    requires { HasNoneBeforeYearOne (least_sketch least.now) }
-    ensures { IfOk result (λ out. out.items ≡ descriptor_text (least_sketch least.now)) }
-{
-    describe_in(alloc, Version::First, least)
+    write_line(out, title(version))?;
+    write_said(out, version, least, days)
 }

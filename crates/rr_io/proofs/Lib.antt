@@ -1,3 +1,4 @@
 pub mod HostLemmas
 pub mod NamesLemmas
+pub mod TextLemmas
 pub mod ToldLemmas

@@ -1,4 +1,4 @@
--- What holds of the bytes that a source holds, where it tells them.
+-- What holds of the bytes that a source holds, if it tells them.
 use Rattle.std.proofs.Common.{◌≡◌, ℕ, List, take, Option, Some, None, option_map, IfSome}
 use Rattle.std.specs.Prelude.{Result, Ok, Err, IfOk, option_and_then}
 

@@ -27,7 +27,7 @@ pub record Puts : Type 0 where
 abbrev pub IsToFail : Fetches → ℕ → List ℕ → Type 0
 IsToFail s number name = IsTrue (list_any (λ n. nat_eq n number) s.failing) ⊎ IsNone (bytes_at s.names name)
 
--- the next fetch is to fail where it asks for this name
+-- the next fetch is to fail if it asks for this name
 abbrev pub IsNextToFail : Fetches → List ℕ → Type 0
 IsNextToFail s name = IsToFail s (next_number s.fetches) name
 
@@ -35,17 +35,17 @@ IsNextToFail s name = IsToFail s (next_number s.fetches) name
 abbrev pub fetches_after : {T : Type 0} → Result T FetchError → List ℕ → Fetches → Fetches
 fetches_after result name s = record s { fetches = next_number s.fetches; failed = failed_after result name s.failed }
 
--- a fetch fails exactly where it is to fail, unless out of memory
+-- a fetch fails exactly if it is to fail, unless out of memory
 abbrev pub FailsExactly : {T : Type 0} → Result T FetchError → Type 0 → Type 0
 FailsExactly (Ok v) to_fail = to_fail → ⊥
 FailsExactly (Err fetch.Failed) to_fail = to_fail
 FailsExactly (Err fetch.NoMemory) to_fail = Unit {0}
 
--- how many bytes the put of this number appends first, where it is to fail: the earliest entry counts
+-- how many bytes the put of this number appends first, if it is to fail: the earliest entry counts
 abbrev pub first_of : List (ℕ × ℕ) → ℕ → Option ℕ
 first_of failing number = lookup (λ n. nat_eq n number) failing
 
--- how many bytes the next put appends first, where it is to fail
+-- how many bytes the next put appends first, if it is to fail
 abbrev pub next_first : Puts → Option ℕ
 next_first s = first_of s.failing (next_number s.puts)
 

@@ -12,7 +12,7 @@ entries_of m = map (λ (e : String Global × Vec ℕ Global). (string_bytes e.0,
 abbrev pub bytes_at : List (List ℕ × List ℕ) → List ℕ → Option (List ℕ)
 bytes_at entries name = lookup (bytes_eq name) entries
 
--- the bytes under a name, none of them where it is not there
+-- the bytes under a name, none of them if it is not there
 abbrev pub bytes_or_none : List (List ℕ × List ℕ) → List ℕ → List ℕ
 bytes_or_none entries name = unwrap_or (bytes_at entries name) []
 

@@ -14,7 +14,7 @@ KeepsHeld old new = (name : List ℕ) → new name ≡ old name
 abbrev pub IsFrontOf : {E : Type 0} → ℕ → List ℕ → Result (Vec ℕ Global) E → Type 0
 IsFrontOf limit bytes result = IfOk result (λ v. v.items ≡ take (limit + 1) bytes)
 
--- what was had are the bytes, cut after one more than the limit, where the source tells them
+-- what was had are the bytes, cut after one more than the limit, if the source tells them
 abbrev pub IsFrontIfTold : {E : Type 0} → ℕ → Option (List ℕ) → Result (Vec ℕ Global) E → Type 0
 IsFrontIfTold limit told result = IfOk result (λ v. IfSome told (λ bytes. v.items ≡ take (limit + 1) bytes))
 
@@ -36,11 +36,11 @@ next_number n = min (n + 1) last_count
 abbrev pub RoseOrIsLast : ℕ → ℕ → Type 0
 RoseOrIsLast old new = (old < new) ⊎ (new ≡ last_count)
 
--- the sink has these bytes after what it had, where it tells
+-- the sink has these bytes after what it had, if it tells
 abbrev pub Appended : Option (List ℕ) → List ℕ → Option (List ℕ) → Type 0
 Appended old bytes new = new ≡ option_map (λ w. w ++ bytes) old
 
--- the sink has a first part of these bytes after what it had, where it tells
+-- the sink has a first part of these bytes after what it had, if it tells
 abbrev pub AppendedPart : Option (List ℕ) → List ℕ → Option (List ℕ) → Type 0
 AppendedPart old bytes new = (n : ℕ) × Appended old (take n bytes) new
 

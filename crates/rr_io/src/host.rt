@@ -1,9 +1,10 @@
 // Files, standard input and standard output.
-ghost use Rattle.std.specs.Prelude.{◌≡◌, ◌<◌, ◌≤◌, ◌^◌, ◌-◌, [], None, IsSome, OnErr, OnOk, length, option_map, slice_get};
-ghost use Rattle.rr_io.specs.Outside.{IsFrontIfTold, failed_after, faults_after};
+ghost use Rattle.std.specs.Prelude.{◌≡◌, ◌<◌, ◌≤◌, ◌^◌, ◌-◌, [], None, IsErrOf, IsSome, OnErr, OnOk, length, option_map, slice_get};
+ghost use Rattle.rr_io.specs.Outside.{IsFrontIfTold, failed_after, faults_after, next_number};
 
+use crate::text::{PieceError, write_pieces};
 use crate::write_fault::{WriteFault, fault_of};
-use crate::{FetchError, PutError, Sink, Source};
+use crate::{FetchError, PutError, Sink, Source, Text};
 use rr_model::MAX_INPUT;
 use std::alloc::Global;
 use std::fs;
@@ -147,7 +148,7 @@ impl<R: Print + Drop> HostSink<R> {
         }
     }
 
-    /// The first bytes of the last put, 64 at most.
+    /// The first bytes of the last put, 64 at most; none after a text that was put piece by piece.
     pub fn front(&self) -> &[u8] {
         &self.front[..self.kept.min(FRONT)]
     }
@@ -157,6 +158,18 @@ impl<R: Print + Drop> HostSink<R> {
         ensures { result ≡ self.now.why }
     {
         self.why
+    }
+
+    // Counts a fault of this kind.
+    fn fault(&mut self, kind: ErrorKind) -> PutError
+        ensures result { result ≡ PutError.Failed }
+        ensures counts { self.new.faults ≡ next_number self.old.faults }
+        ensures never_falls { self.old.faults ≤ self.new.faults }
+        ensures why { IsSome self.new.why }
+    {
+        self.faults = self.faults.saturating_add(1);
+        self.why = Some(fault_of(kind));
+        PutError::Failed
     }
 
     // Keeps the first bytes of a put. The faults stay.
@@ -186,11 +199,21 @@ impl<R: Print + Drop> Sink for HostSink<R> {
         // Goes on after a short write. A write that takes nothing of some bytes is an error.
         match io::writer(&self.rt).write_all(bytes) {
             Ok(()) => Ok(()),
-            Err(error) => {
-                self.faults = self.faults.saturating_add(1);
-                self.why = Some(fault_of(error.kind()));
-                Err(PutError::Failed)
-            }
+            Err(error) => Err(self.fault(error.kind())),
+        }
+    }
+
+    fn put_text<T: Text>(&mut self, alloc: Global, text: &T) -> Result<(), PutError>
+        ensures counts { self.new.faults ≡ faults_after result self.old.faults }
+        ensures never_falls { self.old.faults ≤ self.new.faults }
+        ensures ok { OnOk result (self.new ≡ self.old) }
+        ensures err { IsErrOf result PutError.Failed → IsSome self.new.why }
+    {
+        self.kept = 0;
+        match write_pieces(alloc, text, io::writer(&self.rt)) {
+            Ok(_) => Ok(()),
+            Err(PieceError::NoMemory) => Err(PutError::NoMemory),
+            Err(PieceError::Failed(error)) => Err(self.fault(error.kind())),
         }
     }
 }

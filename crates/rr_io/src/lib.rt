@@ -1,4 +1,5 @@
-//! Where operands come from and where the output goes: sources and sinks, in memory and of the system, and notes on standard error.
+//! Where operands come from and where the output goes: sources and sinks, in memory and of the system, texts that are put piece by
+//! piece, and notes on standard error.
 #![tactic(auto)]
 
 mod host;
@@ -9,6 +10,7 @@ mod note;
 mod sink;
 mod source;
 mod steady;
+mod text;
 mod write_fault;
 
 pub use host::{HostSink, HostSource};
@@ -18,4 +20,5 @@ pub use note::put_note;
 pub use sink::{PutError, Sink};
 pub use source::{FetchError, Source};
 pub use steady::{SteadySink, SteadySource};
+pub use text::Text;
 pub use write_fault::WriteFault;

@@ -5,7 +5,8 @@ ghost use Rattle.rr_io.specs.Outside.{IsFrontIfTold, KeepsHeld, IsPut};
 ghost use Rattle.rr_io.specs.Memory.{FailsExactly, IsNextToFail, IsPutCounted, PutsAs, fetches_after, first_of, next_first};
 
 use crate::names::{Names, front};
-use crate::{FetchError, PutError, Sink, Source};
+use crate::text::whole;
+use crate::{FetchError, PutError, Sink, Source, Text};
 use rr_model::{MAX_INPUT, NoMemory};
 use std::alloc::Global;
 use std::marker::Model;
@@ -144,7 +145,7 @@ impl Source for MemorySource {
     }
 }
 
-// How many bytes the put of this number appends before it fails, where it is to fail.
+// How many bytes the put of this number appends before it fails, if it is to fail.
 fn first_of(failing: &[(u64, usize)], put: u64) -> Option<usize>
     ensures { result ≡ first_of failing.now put }
 {
@@ -169,9 +170,9 @@ impl MemorySink {
         }
     }
 
-    /// Lets the put of this number fail once it has appended its first bytes, as many as `first`, or all where it has fewer.
+    /// Lets the put of this number fail once it has appended its first bytes, as many as `first`, or all if it has fewer.
     ///
-    /// The first put has number 1. Where one put is listed twice, the earlier entry counts.
+    /// The first put has number 1. If one put is listed twice, the earlier entry counts.
     pub fn fail(&mut self, put: u64, first: usize) -> Result<(), NoMemory>
         ensures ok { OnOk result
             (self.new ≡ record self.old { failing = self.old.failing ++ (put, first) ∷ [] }) }
@@ -212,6 +213,21 @@ impl Sink for MemorySink {
                     .extend_from_slice(&bytes[..first.min(bytes.len())])?;
                 self.faults = self.faults.saturating_add(1);
                 Err(PutError::Failed)
+            }
+        }
+    }
+
+    fn put_text<T: Text>(&mut self, alloc: Global, text: &T) -> Result<(), PutError>
+        ensures puts { PutsAs (next_first self.old) result (T.bytes text.now)
+            self.old.bytes self.new.bytes }
+        ensures never_falls { self.old.faults ≤ self.new.faults }
+        ensures rest { IsPutCounted result self.old self.new }
+    {
+        match whole(alloc, text) {
+            Ok(bytes) => self.put(bytes.as_slice()),
+            Err(NoMemory) => {
+                self.puts = self.puts.saturating_add(1);
+                Err(PutError::NoMemory)
             }
         }
     }

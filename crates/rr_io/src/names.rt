@@ -26,7 +26,7 @@ impl Model for Names {
 }
 
 impl Names {
-    /// No names.
+    /// Names to which nothing was added yet. It takes no memory.
     pub fn new(alloc: Global) -> Self
         ensures { result ≡ [] }
     {
@@ -47,7 +47,7 @@ impl Names {
         Ok(())
     }
 
-    /// The bytes under the name, where it is there.
+    /// The bytes under the name; `None` if it is not there.
     pub fn get(&self, name: &str) -> Option<&[u8]>
         ensures { option_map (λ b. b.now) result ≡ bytes_at self.now name.now }
     {

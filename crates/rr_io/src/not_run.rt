@@ -5,7 +5,7 @@ use std::io;
 /// Why the words of a program are not run.
 #[derive(Clone, Copy, Debug, PartialEq, Eq)]
 pub enum NotRun {
-    /// A word is no text.
+    /// A word is no text: its bytes are not UTF-8.
     NoText,
     /// Out of memory for the words.
     NoMemory,

@@ -9,7 +9,7 @@ use std::alloc::{AllocError, AllocFailed, Global};
 pub enum FetchError {
     /// The bytes could not be had, and the source has noted the name.
     Failed,
-    /// Out of memory.
+    /// Out of memory. No name was noted.
     NoMemory,
 }
 
@@ -50,7 +50,7 @@ impl From<NoMemory> for FetchError {
 pub trait Source {
     ghost use Rattle.rr_io.specs.Outside.{IsFrontIfTold, KeepsHeld, failed_after};
 
-    /// The bytes under a name, where the source tells them.
+    /// The bytes under a name, if the source tells them.
     ghost held: { Self → List ℕ → Option (List ℕ) };
 
     /// The names whose fetch has failed, in order.
@@ -64,7 +64,9 @@ pub trait Source {
         ensures failed { failed self.new ≡ failed_after result name.now (failed self.old) }
         ensures held { KeepsHeld (held self.old) (held self.new) };
 
-    /// The bytes under a name, cut after `limit + 1` bytes: where `limit + 1` come, there are more than `limit`. See `fetch`.
+    /// The bytes under a name, cut after `limit + 1` bytes: who gets `limit + 1` knows that there are more than `limit`.
+    ///
+    /// `Failed` comes only with the name at the end of those that have failed. `NoMemory` leaves these names as they were.
     fn fetch_within(
         &mut self,
         alloc: Global,

@@ -4,7 +4,8 @@ ghost use Rattle.rr_io.specs.Names.{bytes_or_none, Sets};
 ghost use Rattle.rr_io.specs.Outside.{IsFrontOf, IsPut};
 
 use crate::names::{Names, front};
-use crate::{FetchError, PutError, Sink, Source};
+use crate::text::whole;
+use crate::{FetchError, PutError, Sink, Source, Text};
 use rr_model::{MAX_INPUT, NoMemory};
 use std::alloc::Global;
 use std::marker::Model;
@@ -38,7 +39,7 @@ impl Model for SteadySink {
 }
 
 impl SteadySource {
-    /// No names.
+    /// A source to which no name was added yet: each name has no bytes. It takes no memory.
     pub fn new(alloc: Global) -> Self
         ensures { result ≡ [] }
     {
@@ -91,7 +92,7 @@ impl Source for SteadySource {
 }
 
 impl SteadySink {
-    /// No bytes.
+    /// A sink to which nothing was put yet. It takes no memory.
     pub fn new(alloc: Global) -> Self
         ensures { result ≡ [] }
     {
@@ -122,5 +123,14 @@ impl Sink for SteadySink {
     {
         self.bytes.extend_from_slice(bytes)?;
         Ok(())
+    }
+
+    fn put_text<T: Text>(&mut self, alloc: Global, text: &T) -> Result<(), PutError>
+        ensures ok { OnOk result (self.new ≡ self.old ++ T.bytes text.now) }
+        ensures err { OnErr result (self.new ≡ self.old) }
+        ensures steady { IsErrOf result PutError.Failed → ⊥ }
+    {
+        let bytes = whole(alloc, text)?;
+        self.put(bytes.as_slice())
     }
 }

@@ -29,6 +29,6 @@ returns c =
         plan = c.in-Some.plan;
         is_plan = is;
         split = is.split;
-        written = rw c.as_slice.ensures.value at c.in_ok-write_vcal_plan.ensures.text;
+        written = rw c.as_slice.ensures.value at c.in_ok-text.ensures.text;
       },
     )
