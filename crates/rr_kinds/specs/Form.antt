@@ -1,0 +1,47 @@
+-- Series of one endless rule whose days are told by the kind of each year (RFC 5545, section 3.3.10).
+use Rattle.std.specs.Prelude.{◌≡◌, true, [], length, get_or}
+use Rattle.rr_model.specs.Moment.Units.{is_whole_days}
+use Rattle.rr_model.specs.Rule.Validity.{is_absent}
+use Rattle.rr_model.specs.declared.rule.End.TheVariants.{Never}
+use Rattle.rr_model.specs.declared.rule.Rule.{Rule}
+use Rattle.rr_model.specs.declared.rule.Series.{Series}
+
+-- a rule of whole days and of each of them, without BYWEEKNO and BYSETPOS
+pub record LeavesNoUnitOut (rule : Rule) : Type 0 where
+  pub freq : is_whole_days rule.freq ≡ true
+  pub interval : rule.interval ≡ 1
+  pub weeks : is_absent rule.by_week_no ≡ true
+  pub positions : is_absent rule.by_set_pos ≡ true
+
+-- each day has the time of the start alone
+pub record HasOwnTime (rule : Rule) : Type 0 where
+  pub hours : is_absent rule.by_hour ≡ true
+  pub minutes : is_absent rule.by_minute ≡ true
+  pub seconds : is_absent rule.by_second ≡ true
+
+-- the kind of a year tells which of its days the rule chooses
+pub record ChoosesByKind (rule : Rule) : Type 0 where
+  pub endless : rule.end ≡ Never
+  pub units : LeavesNoUnitOut rule
+  pub time : HasOwnTime rule
+
+-- one rule, and neither excluded rules nor dates beside the start
+pub record HasOneRuleAlone (series : Series) : Type 0 where
+  pub one : length series.rules ≡ 1
+  pub excluded : series.excluded ≡ []
+  pub plus : series.plus ≡ []
+  pub minus : series.minus ≡ []
+
+-- one rule alone, and each of its days is told by the kind of its year
+pub record GoesByKinds (series : Series) : Type 0 where
+  pub rule : Rule
+  pub is_rule : get_or series.rules 0 rule ≡ rule
+  pub alone : HasOneRuleAlone series
+  pub chooses : ChoosesByKind rule
+
+-- both go by kinds, and have one start
+pub record GoByKindsTogether (a b : Series) : Type 0 where
+  pub first : GoesByKinds a
+  pub second : GoesByKinds b
+  pub kind : a.kind ≡ b.kind
+  pub start : a.start ≡ b.start
