@@ -99,12 +99,13 @@ one_rule [] rule l e = absurd (omega (arith, l))
 one_rule (x ∷ []) rule l e = ap (λ y. y ∷ []) e
 one_rule (x ∷ y ∷ ys) rule l e = absurd (omega (arith, l))
 
+module _ (series : Series) (by : GoesByKinds series) where
+  pub rules_are : series.rules ≡ by.rule ∷ []
+  rules_are = one_rule series.rules by.rule by.alone.one by.is_rule
+
 module _ (series : Series) (by : GoesByKinds series) (sound : IsSound series) where
   abbrev rule : Rule
   rule = by.rule
-
-  rules_are : series.rules ≡ rule ∷ []
-  rules_are = one_rule series.rules rule by.alone.one by.is_rule
 
   start_chosen : IsTrue (is_chosen rule series.kind series.start series.start)
   start_chosen = subst (λ r. IsTrue (is_chosen r series.kind series.start series.start)) by.is_rule
@@ -115,11 +116,14 @@ module _ (series : Series) (by : GoesByKinds series) (sound : IsSound series) wh
       let h = (chosen_is rule by.chooses.units by.chooses.time series.kind series.start t).0 c in
       record { of_kind = refl; not_before = l; allowed = h.0; at_second = h.1 }
 
+  pub start_on_day : IsOnDay rule series.kind series.start series.kind series.start
+  start_on_day = on_day series.start (omega (arith, ints)) start_chosen
+
   stands_on : (t : ℤ) → ((series.start_counts ≡ true) × (t ≡ series.start)) ⊎ IsMemberOfSome series.rules series.kind series.start t ⊎ Contains series.plus t
       → IsOnDay rule series.kind series.start series.kind t
   stands_on t (inl (c, e)) =
-      subst (λ u. IsOnDay rule series.kind series.start series.kind u) (sym e) (on_day series.start (omega (arith, ints)) start_chosen)
-  stands_on t (inr (inl m)) = elim (subst (λ rs. IsMemberOfSome rs series.kind series.start t) rules_are m) [
+      subst (λ u. IsOnDay rule series.kind series.start series.kind u) (sym e) start_on_day
+  stands_on t (inr (inl m)) = elim (subst (λ rs. IsMemberOfSome rs series.kind series.start t) (rules_are series by) m) [
     | inl one ↦ on_day t one.not_before one.chosen
     | inr none ↦ absurd none
   ]
@@ -134,7 +138,7 @@ module _ (series : Series) (by : GoesByKinds series) (sound : IsSound series) wh
         subst (λ e. IsWithinEnd e series.kind t (members_to rule series.kind series.start t)) (sym by.chooses.endless) tt in
         record {
           kind = h.of_kind;
-          stands = inr (inl (subst (λ rs. IsMemberOfSome rs series.kind series.start t) (sym rules_are)
+          stands = inr (inl (subst (λ rs. IsMemberOfSome rs series.kind series.start t) (sym (rules_are series by))
               (inl (record { chosen = chosen; not_before = h.not_before; within_end = within }))));
           kept = λ c. Contains-none t (subst (λ xs. Contains xs t) by.alone.minus c);
           not_excluded = λ m. subst (λ rs. IsMemberOfSome rs series.kind series.start t) by.alone.excluded m;

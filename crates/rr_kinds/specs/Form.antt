@@ -1,7 +1,8 @@
 -- Series of one endless rule whose days are told by the kind of each year (RFC 5545, section 3.3.10).
-use Rattle.std.specs.Prelude.{◌≡◌, true, [], length, get_or}
+use Rattle.std.specs.Prelude.{◌≡◌, true, [], length, get_or, ℤ}
 use Rattle.rr_model.specs.Moment.Units.{is_whole_days}
 use Rattle.rr_model.specs.Rule.Validity.{is_absent}
+use Rattle.rr_model.specs.Series.Limits.{IsCountedTooFar, IsTooManyMoments}
 use Rattle.rr_model.specs.declared.rule.End.TheVariants.{Never}
 use Rattle.rr_model.specs.declared.rule.Rule.{Rule}
 use Rattle.rr_model.specs.declared.rule.Series.{Series}
@@ -45,3 +46,7 @@ pub record GoByKindsTogether (a b : Series) : Type 0 where
   pub second : GoesByKinds b
   pub kind : a.kind ≡ b.kind
   pub start : a.start ≡ b.start
+
+-- A series that goes by kinds does not go beyond the limits of counts and of moments.
+abbrev pub NoLimitRefuses : Type 0
+NoLimitRefuses = (series : Series) → GoesByKinds series → (IsCountedTooFar series → ⊥) × ((settled : ℤ) → IsTooManyMoments series settled → ⊥)

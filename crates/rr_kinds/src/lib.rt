@@ -2,9 +2,11 @@
 #![tactic(auto)]
 
 mod form;
+mod laws;
 mod masks;
 mod verdict;
 mod years;
 
 pub use form::goes_by_kinds;
+pub use laws::no_limit_refuses;
 pub use verdict::equal_by_kinds;

@@ -1,35 +1,32 @@
-use Rattle.std.proofs.Common.{ℤ, sym, subst, w64, FitsSigned}
-use Rattle.rr_model.specs.Moment.{day_part}
+use Rattle.std.proofs.Common.{ℤ, sym, subst, ◌∙◌}
+use Rattle.std.proofs.lemmas.Bool.{false≢true}
 use Rattle.rr_model.specs.Series.Occurrences.{Occurs}
 use Rattle.rr_model.specs.Sets.Verdict.{IsEqualVerdict}
 use Rattle.rr_model.specs.declared.rule.Series.{Series}
+use Rattle.rr_model.specs.declared.verdict.Side.TheVariants.{A, B}
 use Rattle.rr_model.specs.declared.verdict.Verdict.TheVariants.{No}
-use Rattle.rr_kinds.proofs.VerdictLemmas.{day_stored, moment_stored, near_stored, no, none_as, same_rule, some_as, yes}
+use Rattle.rr_model.proofs.BackLemmas.{in_years_back}
+use Rattle.rr_kinds.proofs.StartLemmas.{begin_together, first_begins, second_begins}
 use Rattle.rr_kinds.proofs.verdict.verdict.Goals as goal
 
-pub moment_at-requires : goal.moment_at-requires
-moment_at-requires c = rw (near_stored c.in-Some.found.day c.in-Some.ensures.some.near) c.in-Some.ensures.some.near
-
-pub returns-in-None : goal.returns-in-None
-returns-in-None c =
+pub returns-then-begins_before : goal.returns-then-begins_before
+returns-then-begins_before c =
     let a : Series = c.args.a.now in
     let b : Series = c.args.b.now in
-    let t = c.requires.together in
-    let first = same_rule a.rules c.as_slice.result.now c.index-as_slice-0.result t.first.rule c.as_slice.ensures c.index-as_slice-0.is t.first.alone.one t.first.is_rule in
-    let second = same_rule b.rules c.as_slice-2.result.now c.index-as_slice-0-2.result t.second.rule c.as_slice-2.ensures c.index-as_slice-0-2.is t.second.alone.one t.second.is_rule in
-    let day = day_stored a.kind a.start c.day_part-day.result c.requires.first.valid.start c.day_part-day.ensures in
-    yes a b t c.requires.first c.requires.second (none_as _ t.first.rule _ t.second.rule _ (day_part a.kind a.start) first second day c.in-None.ensures.none)
+    let r = c.requires in
+    subst (λ (t : ℤ). IsEqualVerdict (Occurs a) (Occurs b) (No a.kind t A)) (sym (in_years_back a.kind a.start r.sound_a.valid.start))
+    (first_begins a b r.first r.second r.sound_a r.sound_b (c.begins_before.ensures.0 c.if-begins_before.true))
 
-pub returns-in-Some : goal.returns-in-Some
-returns-in-Some c =
+pub returns-then-begins_before-2 : goal.returns-then-begins_before-2
+returns-then-begins_before-2 c =
     let a : Series = c.args.a.now in
     let b : Series = c.args.b.now in
-    let t = c.requires.together in
-    let first = same_rule a.rules c.as_slice.result.now c.index-as_slice-0.result t.first.rule c.as_slice.ensures c.index-as_slice-0.is t.first.alone.one t.first.is_rule in
-    let second = same_rule b.rules c.as_slice-2.result.now c.index-as_slice-0-2.result t.second.rule c.as_slice-2.ensures c.index-as_slice-0-2.is t.second.alone.one t.second.is_rule in
-    let day = day_stored a.kind a.start c.day_part-day.result c.requires.first.valid.start c.day_part-day.ensures in
-    let is = some_as _ t.first.rule _ t.second.rule _ (day_part a.kind a.start) first second day c.in-Some.found c.in-Some.ensures.some in
-    let fits : FitsSigned w64 c.moment_at.result = record { sfits = c.moment_at.type_inv } in
-    let at = moment_stored a.kind a.start c.in-Some.found.day c.moment_at.result c.second_part.result c.requires.first.valid.start is.near fits
-    c.moment_at.ensures.value c.second_part.ensures.value in
-    subst (λ (m : ℤ). IsEqualVerdict (Occurs a) (Occurs b) (No a.kind m c.in-Some.found.side)) (sym at) (no a b t c.requires.first c.requires.second c.in-Some.found is)
+    let r = c.requires in
+    subst (λ (t : ℤ). IsEqualVerdict (Occurs a) (Occurs b) (No b.kind t B)) (sym (in_years_back b.kind b.start r.sound_b.valid.start))
+    (second_begins a b r.first r.second r.sound_a r.sound_b (c.begins_before-2.ensures.0 c.if-begins_before-2.true))
+
+pub verdict_from_one_start-requires-clause-together : goal.verdict_from_one_start-requires-clause-together
+verdict_from_one_start-requires-clause-together c =
+    begin_together c.args.a.now c.args.b.now c.requires.first c.requires.second c.requires.sound_a c.requires.sound_b
+    (λ o. false≢true (sym c.if-begins_before.false ∙ c.begins_before.ensures.1 o))
+    (λ o. false≢true (sym c.if-begins_before-2.false ∙ c.begins_before-2.ensures.1 o))
