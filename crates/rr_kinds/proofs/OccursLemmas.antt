@@ -8,7 +8,7 @@ use Rattle.std.specs.Cmp.Derive.{both_true}
 use Rattle.std.proofs.lemmas.Int.{ints}
 use Rattle.rr_model.specs.Whole.{divides}
 use Rattle.rr_model.specs.Moment.{day_part, second_part}
-use Rattle.rr_model.specs.Moment.Units.{unit_number}
+use Rattle.rr_model.specs.Moment.Units.{is_whole_days, unit_number}
 use Rattle.rr_model.specs.Rule.Candidate.{allows, interval_holds, is_candidate}
 use Rattle.rr_model.specs.Rule.Chosen.{is_chosen}
 use Rattle.rr_model.specs.Rule.DaysAndTimes.{day_holds, seconds_of, time_holds}
@@ -19,6 +19,8 @@ use Rattle.rr_model.specs.Series.Occurrences.{IsMemberOfSome, Occurs}
 use Rattle.rr_model.specs.Series.Soundness.{IsSound}
 use Rattle.rr_model.specs.declared.kind.Kind.{Kind}
 use Rattle.rr_model.specs.declared.kind.Kind.TheVariants.{Days, Moments}
+use Rattle.rr_model.specs.declared.rule.Freq.{Freq}
+use Rattle.rr_model.specs.declared.rule.Freq.TheVariants.{Monthly, Yearly}
 use Rattle.rr_model.specs.declared.rule.Rule.{Rule}
 use Rattle.rr_model.specs.declared.rule.Series.{Series}
 use Rattle.rr_model.proofs.ChoiceLemmas.{is_chosen-plain}
@@ -28,6 +30,11 @@ use Rattle.rr_model.proofs.RisingSetLemmas.{Contains-none}
 use Rattle.rr_model.proofs.DividesLemmas.{one_divides}
 use Rattle.rr_expand.specs.Years.{allows_day, filling_of}
 use Rattle.rr_kinds.specs.Form.{GoesByKinds, HasOwnTime, LeavesNoUnitOut}
+
+-- months and years are whole days
+whole : (freq : Freq) → (freq ≡ Monthly) ⊎ (freq ≡ Yearly) → is_whole_days freq ≡ true
+whole freq (inl e) = rw e refl
+whole freq (inr e) = rw e refl
 
 -- ---- the time of day
 
@@ -49,7 +56,7 @@ module _ (rule : Rule) (units : LeavesNoUnitOut rule) (own : HasOwnTime rule) wh
   time_is Days start s low = ((λ t. omega arith), (λ e. refl))
   time_is Moments start s low =
       let w : ℕ = second_part Moments start in
-      let fills = fills_times rule.freq units.freq in
+      let fills = fills_times rule.freq (whole rule.freq units.freq) in
       let parts : time_holds rule Moments start s
       ≡ (allows (pos (w / 3_600) ∷ []) (pos (s / 3_600)) && allows (pos (w / 60 % 60) ∷ []) (pos (s / 60 % 60)) && allows (pos (w % 60) ∷ []) (pos (s % 60)))
       = time_parts_hold-at (filled_rule rule Moments start) (pos 0) s low ∙ rw (fills.0, fills.1, fills.2, own.hours, own.minutes, own.seconds) refl in (
@@ -78,7 +85,7 @@ module _ (rule : Rule) (units : LeavesNoUnitOut rule) (own : HasOwnTime rule) wh
       let is : is_chosen rule kind start t ≡ (allows_day (filling_of rule (day_part kind start)) d && time_holds rule kind start s) =
       is_chosen-plain rule kind start t (absent rule.by_set_pos units.positions)
       ∙ ap (is_candidate rule kind start) (moment_is kind t)
-      ∙ candidates_are_days_and_times rule kind start d s units.freq low
+      ∙ candidates_are_days_and_times rule kind start d s (whole rule.freq units.freq) low
       ∙ ap (λ b. b && time_holds rule kind start s) (day_is (day_part kind start) d) in (
         (λ c. (let p = and_parts (allows_day (filling_of rule (day_part kind start)) d) (time_holds rule kind start s) (sym is ∙ c) in
             (p.0, (time_is kind start s low).0 p.1))),

@@ -81,7 +81,8 @@ module _ (a b : Series) (by_a : GoesByKinds a) (by_b : GoesByKinds b) (sound_a :
     (start_occurs a by_a sound_a, λ o. not_early b by_b sound_b a.kind a.start o order),
     (λ l u before. (
       (λ o. absurd (not_early a by_a sound_a l u o before)),
-      (λ o. absurd (not_early b by_b sound_b l u o (Before-trans l u a.kind a.start b.kind b.start before order))))),
+      (λ o. absurd (not_early b by_b sound_b l u o (Before-trans l u a.kind a.start b.kind b.start before order))),
+    )),
   )
 
   pub second_begins : Before b.kind b.start a.kind a.start → IsEqualVerdict (Occurs a) (Occurs b) (No b.kind b.start B)
@@ -89,7 +90,8 @@ module _ (a b : Series) (by_a : GoesByKinds a) (by_b : GoesByKinds b) (sound_a :
     (start_occurs b by_b sound_b, λ o. not_early a by_a sound_a b.kind b.start o order),
     (λ l u before. (
       (λ o. absurd (not_early a by_a sound_a l u o (Before-trans l u b.kind b.start a.kind a.start before order))),
-      (λ o. absurd (not_early b by_b sound_b l u o before)))),
+      (λ o. absurd (not_early b by_b sound_b l u o before)),
+    )),
   )
 
   pub begin_together : (Before a.kind a.start b.kind b.start → ⊥) → (Before b.kind b.start a.kind a.start → ⊥) → GoByKindsTogether a b

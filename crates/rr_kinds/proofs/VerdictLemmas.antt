@@ -158,11 +158,11 @@ day_stored kind start day h is =
     ap (λ d. to_z w64 (of_z w64 d)) e ∙ in_years_back Days (day_part kind start) h
 
 -- a day that is near comes back as it was stored
-pub near_stored : (day : ℤ) → IsDayWithin 1000 day → to_z w64 (of_z w64 day) ≡ day
+pub near_stored : (day : ℤ) → IsDayWithin 0 day → to_z w64 (of_z w64 day) ≡ day
 near_stored day h = omega (arith, ints, h.0, h.1)
 
 -- the moment that is named, computed and stored
-pub moment_stored : (kind : Kind) (start day moment : ℤ) (second : ℕ) → IsInYears kind start → IsDayWithin 1000 day → FitsSigned w64 moment
+pub moment_stored : (kind : Kind) (start day moment : ℤ) (second : ℕ) → IsInYears kind start → IsDayWithin 0 day → FitsSigned w64 moment
     → moment ≡ moment_at kind (to_z w64 (of_z w64 day)) second → second ≡ second_part kind (to_z w64 (of_z w64 start))
     → to_z w64 (of_z w64 moment) ≡ moment_at kind day (second_part kind start)
 moment_stored kind start day moment second h near fits is second_is =
@@ -170,3 +170,7 @@ moment_stored kind start day moment second h near fits is second_is =
     ∙ is
     ∙ ap (λ d. moment_at kind d second) (near_stored day near)
     ∙ ap (moment_at kind day) (second_is ∙ ap (second_part kind) (in_years_back kind start h))
+
+-- the day that is named
+pub named_near : (kind : Kind) (start day : ℤ) → IsDayWithin 0 day → IsDayWithin 0 (day_part kind (moment_at kind day (second_part kind start)))
+named_near kind start day near = subst (IsDayWithin 0) (sym (day_at kind day (second_part kind start) (second_part-below kind start))) near

@@ -1,5 +1,5 @@
 -- The days that two rules allow, year by year.
-use Rattle.std.proofs.Common.{◌≡◌, ◌⊎◌, ℕ, ◌<◌, ◌≤◌, Bool, true, false, ◌&&◌, List, get_or, replicate, ℤ, pos, neg_ℤ, nat_abs, ◌+ℤ◌, ◌-ℤ◌, ◌*ℤ◌, ◌≤ℤ◌, ◌<ℤ◌}
+use Rattle.std.proofs.Common.{◌≡◌, ◌⊎◌, ℕ, ◌<◌, ◌≤◌, Bool, true, false, ◌&&◌, List, [], ◌∷◌, get_or, replicate, ℤ, pos, neg_ℤ, nat_abs, ◌+ℤ◌, ◌-ℤ◌, ◌*ℤ◌, ◌≤ℤ◌, ◌<ℤ◌}
 use Rattle.std.proofs.Common.{refl, sym, ap, subst, ◌∙◌, inl, inr, arith, rules, to_z, of_z, to_z-of_z, w64, FitsSigned}
 use Rattle.std.specs.Prelude.{◌↔◌, IsTrue, nat_lt}
 use Rattle.std.specs.List.{slice_set}
@@ -12,6 +12,8 @@ use Rattle.rr_model.specs.Moment.Years.{HasFourDigitYear}
 use Rattle.rr_model.specs.Rule.Validity.{is_absent}
 use Rattle.rr_model.specs.Sets.Verdict.{HoldsOnlyOf}
 use Rattle.rr_model.specs.Whole.{floor_div, floor_mod}
+use Rattle.rr_model.specs.declared.rule.Freq.{Freq}
+use Rattle.rr_model.specs.declared.rule.Freq.TheVariants.{Secondly, Minutely, Hourly, Daily, Weekly, Monthly, Yearly}
 use Rattle.rr_model.specs.declared.rule.Rule.{Rule}
 use Rattle.rr_model.specs.declared.verdict.Side.{Side}
 use Rattle.rr_model.specs.declared.verdict.Side.TheVariants.{A, B, Both}
@@ -20,9 +22,10 @@ use Rattle.rr_model.proofs.CalendarLemmas.{IsInYear-year_of, days_in_year_bounds
 use Rattle.rr_model.proofs.CalendarLemmas.{first_day_of_year_bounds, first_day_of_year_mono}
 use Rattle.rr_model.proofs.SideLemmas.{HoldsOnlyOf-same}
 use Rattle.rr_model.proofs.WholeLemmas.{floor_mod_below, floor_whole}
-use Rattle.rr_expand.specs.Years.{Filling, IsYearMask, allows_day, allows_day_of_year, mask_key}
+use Rattle.rr_expand.specs.Years.{Filling, IsYearMask, allows_day, allows_day_of_year, filling_of, mask_key}
 use Rattle.rr_expand.proofs.KeyWeekLemmas.{equal_keys_have_equal_masks}
 use Rattle.rr_kinds.specs.Days.{AllowSame, AllowSameFrom, AllowSameOfYear, AreSetAlike, IsFirstUnlikeBit, IsFirstUnlikeDay, IsFirstUnlikeOfYear}
+use Rattle.rr_kinds.specs.Form.{HaveSameParts}
 use Rattle.rr_kinds.specs.Walked.{AreWalked}
 use Rattle.rr_kinds.specs.declared.masks.UnlikeBit.{UnlikeBit}
 use Rattle.rr_kinds.specs.declared.years.UnlikeDay.{UnlikeDay}
@@ -108,7 +111,7 @@ module _ (f g : Filling) (year : ℤ) where
     true_of_day : (h : Filling) → IsTrue (allows_day_of_year h year found.bit) ↔ IsTrue (allows_day h (first +ℤ pos found.bit))
     true_of_day h = rw lies ((λ t. t), (λ t. t))
 
-    pub first_of_days : IsDayWithin 0 first → (at : UnlikeDay) → at.day ≡ first +ℤ pos found.bit → at.side ≡ found.side → start ≤ℤ (first +ℤ pos from)
+    pub first_of_days : (neg_ℤ (pos 10_000_000) ≤ℤ first) × (first ≤ℤ pos 10_000_000) → (at : UnlikeDay) → at.day ≡ first +ℤ pos found.bit → at.side ≡ found.side → start ≤ℤ (first +ℤ pos from)
         → AllowSame f g start (first +ℤ pos from) → IsFirstUnlikeDay f g start at
     first_of_days near at day_at side_at order earlier = record {
       not_before = omega (arith, ints, order, is.not_before, day_at);
@@ -225,7 +228,13 @@ start_year d h =
       by_lt_z {P = y ≤ℤ pos 9_999} y (pos 10_000) (λ low. omega (arith, ints, low)) (λ g. absurd (omega (arith, ints, i.begun, h.1, first_day_of_year_mono (pos 10_000) y g))),
     )
 
--- the first day of a year near it is near
+-- the first day of a year near it
+pub year_bounds : (y : ℤ) → pos 1 ≤ℤ y → y ≤ℤ pos 10_400 → (neg_ℤ (pos 10_000_000) ≤ℤ first_day_of_year y) × (first_day_of_year y ≤ℤ pos 10_000_000)
+year_bounds y low high =
+    let b = first_day_of_year_bounds y in
+    (omega (arith, ints, b.0, low), omega (arith, ints, b.1, high))
+
+-- it is near
 pub near_year : (more : ℕ) (y : ℤ) → pos 1 ≤ℤ y → y ≤ℤ pos 10_400 → IsDayWithin more (first_day_of_year y)
 near_year more y low high =
     let b = first_day_of_year_bounds y in
@@ -318,3 +327,25 @@ some_from f g day next order here found is = record {
 -- fewer days than a year has fit
 pub days_fit : (days : ℤ) → pos 0 ≤ℤ days → days ≤ℤ pos 1_000 → FitsSigned w64 days
 days_fit days low high = search rules
+
+-- ---- rules with the same parts
+
+no_weeks : (xs : List ℤ) → is_absent xs ≡ true → xs ≡ []
+no_weeks [] e = refl
+no_weeks (x ∷ xs) e = absurd (cc)
+
+module _ (a b : Rule) (start d : ℤ) (weeks_a : a.by_week_no ≡ []) (weeks_b : b.by_week_no ≡ []) (same : HaveSameParts a b) where
+  same_by : (freq : Freq) → a.freq ≡ freq → b.freq ≡ freq → allows_day (filling_of a start) d ≡ allows_day (filling_of b start) d
+  same_by Secondly e g = rw (e, g, weeks_a, weeks_b, same.months, same.year_days, same.month_days, same.days) refl
+  same_by Minutely e g = rw (e, g, weeks_a, weeks_b, same.months, same.year_days, same.month_days, same.days) refl
+  same_by Hourly e g = rw (e, g, weeks_a, weeks_b, same.months, same.year_days, same.month_days, same.days) refl
+  same_by Daily e g = rw (e, g, weeks_a, weeks_b, same.months, same.year_days, same.month_days, same.days) refl
+  same_by Weekly e g = rw (e, g, weeks_a, weeks_b, same.months, same.year_days, same.month_days, same.days) refl
+  same_by Monthly e g = rw (e, g, weeks_a, weeks_b, same.months, same.year_days, same.month_days, same.days) refl
+  same_by Yearly e g = rw (e, g, weeks_a, weeks_b, same.months, same.year_days, same.month_days, same.days) refl
+
+-- both without BYWEEKNO, they allow the same days
+pub same_parts : (a b : Rule) (start d : ℤ) → HaveSameParts a b → is_absent a.by_week_no ≡ true → is_absent b.by_week_no ≡ true
+    → allows_day (filling_of a start) d ≡ allows_day (filling_of b start) d
+same_parts a b start d same weeks_a weeks_b =
+    same_by a b start d (no_weeks a.by_week_no weeks_a) (no_weeks b.by_week_no weeks_b) same a.freq refl (sym same.freq)

@@ -45,6 +45,6 @@ AllowSameFrom f g from = (d : ℤ) → from ≤ℤ d → allows_day f d ≡ allo
 -- from one day on it is the first that exactly one of the two allows, on its side, and near enough for the calls
 pub record IsFirstUnlikeDay (f g : Filling) (from : ℤ) (found : UnlikeDay) : Type 0 where
   pub not_before : from ≤ℤ found.day
-  pub near : IsDayWithin 1000 found.day
+  pub near : IsDayWithin 0 found.day
   pub unlike : HoldsOnlyOf found.side (IsTrue (allows_day f found.day)) (IsTrue (allows_day g found.day))
   pub before : AllowSame f g from found.day

@@ -4,7 +4,7 @@ ghost use Rattle.rr_model.specs.Moment.{Before};
 ghost use Rattle.rr_model.specs.Series.Occurrences.{Occurs};
 ghost use Rattle.rr_model.specs.Series.Soundness.{IsSound};
 ghost use Rattle.rr_model.specs.Sets.Verdict.{IsEqualVerdict};
-ghost use Rattle.rr_kinds.specs.Form.{GoByKindsTogether, GoesByKinds};
+ghost use Rattle.rr_kinds.specs.Form.{GoByKindsTogether, GoesByKinds, NamesNearDay};
 
 use crate::form::goes_by_kinds;
 use crate::years::first_unlike_day;
@@ -14,9 +14,10 @@ use rr_model::{Kind, Series, Side, Verdict, day_part, moment_at, second_part};
 /// Whether two series have equal occurrences for all years to come; else the first that exactly one of them has. None exactly
 /// if one of them does not go by kinds of years, as `goes_by_kinds` says.
 ///
-/// It takes no memory, and makes a mask of at most one year of each of the 14 kinds, and of the start's, for either series.
+/// A no names an occurrence on a day within `MAX_DAY`. It takes no memory, and makes a mask of at most one year of each of the 14 kinds, and of the start's, for either series.
 pub fn equal_by_kinds(a: &Checked, b: &Checked) -> Option<Verdict>
     ensures some { IfSome result (IsEqualVerdict (Occurs a.now) (Occurs b.now)) }
+    ensures day { IfSome result NamesNearDay }
     ensures none { IfNone result (GoesByKinds a.now → GoesByKinds b.now → ⊥) }
 {
     if !goes_by_kinds(a) || !goes_by_kinds(b) {
@@ -31,7 +32,8 @@ fn verdict(a: &Series, b: &Series) -> Verdict
     requires second { GoesByKinds b.now }
     requires sound_a { IsSound a.now }
     requires sound_b { IsSound b.now }
-    ensures { IsEqualVerdict (Occurs a.now) (Occurs b.now) result }
+    ensures verdict { IsEqualVerdict (Occurs a.now) (Occurs b.now) result }
+    ensures day { NamesNearDay result }
 {
     if begins_before(a, b) {
         return Verdict::No {
@@ -66,7 +68,8 @@ fn verdict_from_one_start(a: &Series, b: &Series) -> Verdict
     requires together { GoByKindsTogether a.now b.now }
     requires first { IsSound a.now }
     requires second { IsSound b.now }
-    ensures { IsEqualVerdict (Occurs a.now) (Occurs b.now) result }
+    ensures verdict { IsEqualVerdict (Occurs a.now) (Occurs b.now) result }
+    ensures day { NamesNearDay result }
 {
     let day = day_part(a.kind, a.start);
     match first_unlike_day(&a.rules.as_slice()[0], &b.rules.as_slice()[0], day) {

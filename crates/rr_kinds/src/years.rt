@@ -7,6 +7,7 @@ ghost use Rattle.rr_expand.specs.Years.{filling_of};
 ghost use Rattle.rr_kinds.specs.Days.{AllowSameFrom, AllowSameOfYear, IsFirstUnlikeDay, IsFirstUnlikeOfYear};
 
 use crate::masks::{UnlikeBit, first_unlike};
+use crate::same::have_same_parts;
 use rr_cal::{date_of, year_kind};
 use rr_expand::{new_year, year_mask};
 use rr_model::{Rule, Side};
@@ -34,6 +35,9 @@ pub(crate) fn first_unlike_day(a: &Rule, b: &Rule, start_day: i64) -> Option<Unl
     ensures some { IfSome result
         (IsFirstUnlikeDay (filling_of a.now start_day) (filling_of b.now start_day) start_day) }
 {
+    if have_same_parts(a, b) {
+        return None;
+    }
     let year = date_of(start_day).year;
     let first = new_year(year);
     match unlike_in_year(a, b, start_day, year, (start_day - first) as u16) {

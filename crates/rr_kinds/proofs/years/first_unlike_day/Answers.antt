@@ -1,11 +1,11 @@
-use Rattle.std.proofs.Common.{◌≡◌, ◌+ℤ◌, ◌-ℤ◌, pos, ℕ, ℤ, nat_abs, to_z, of_z, to_z-of_z, w64, ap, ◌∙◌, arith}
+use Rattle.std.proofs.Common.{◌≤ℤ◌, ◌≡◌, ◌+ℤ◌, ◌-ℤ◌, pos, neg_ℤ, ℕ, ℤ, nat_abs, to_z, of_z, to_z-of_z, w64, ap, ◌∙◌, arith}
 use Rattle.std.proofs.lemmas.Int.{ints}
 use Rattle.rr_model.specs.Calendar.{IsDayWithin, first_day_of_year, year_of}
 use Rattle.rr_model.specs.declared.kind.Kind.TheVariants.{Days}
 use Rattle.rr_model.proofs.StartLemmas.{IsDayWithin-start}
 use Rattle.rr_expand.specs.Years.{Filling, filling_of}
 use Rattle.rr_kinds.proofs.OptionLemmas.{if_none_map, if_some_map}
-use Rattle.rr_kinds.proofs.YearLemmas.{IsYearOfStart, days_fit, first_of_days, near_year, none_from, on_from_year, some_from, year_of_start}
+use Rattle.rr_kinds.proofs.YearLemmas.{IsYearOfStart, days_fit, first_of_days, near_year, none_from, on_from_year, same_parts, some_from, year_bounds, year_of_start}
 use Rattle.rr_kinds.proofs.years.first_unlike_day.Goals.{After-new_year-first}
 use Rattle.rr_kinds.proofs.years.first_unlike_day.Goals as goal
 
@@ -20,6 +20,12 @@ new_year-first-requires c =
     let y = year_of_start c.args.start_day c.date_of-year.result.year c.requires.start (c.date_of-year.ensures.year ∙ ap year_of (to_z-of_z c.ranges.start_day)) in
     rw y.stored (near_year 1000 c.date_of-year.result.year (omega (arith, ints, y.low)) (omega (arith, ints, y.high)))
 
+pub returns-then-have_same_parts : goal.returns-then-have_same_parts
+returns-then-have_same_parts c = record {
+  none = λ d l. same_parts c.args.a.now c.args.b.now c.args.start_day d (c.have_same_parts.ensures c.if-have_same_parts.true) c.requires.first c.requires.second;
+  some = tt;
+}
+
 -- ---- the start's year and its first day
 
 module _ (c : After-new_year-first) where
@@ -29,8 +35,8 @@ module _ (c : After-new_year-first) where
   year_is : IsYearOfStart c.args.start_day year
   year_is = year_of_start c.args.start_day year c.requires.start (c.date_of-year.ensures.year ∙ ap year_of (to_z-of_z c.ranges.start_day))
 
-  taken : IsDayWithin 0 (first_day_of_year year)
-  taken = let y = year_is in near_year 0 year (omega (arith, ints, y.low)) (omega (arith, ints, y.high))
+  taken : (neg_ℤ (pos 10_000_000) ≤ℤ first_day_of_year year) × (first_day_of_year year ≤ℤ pos 10_000_000)
+  taken = let y = year_is in year_bounds year (omega (arith, ints, y.low)) (omega (arith, ints, y.high))
 
   first_near : IsDayWithin 1000 (first_day_of_year year)
   first_near = let y = year_is in near_year 1000 year (omega (arith, ints, y.low)) (omega (arith, ints, y.high))

@@ -1,11 +1,11 @@
-use Rattle.std.proofs.Common.{◌≡◌, ◌<ℤ◌, ◌+ℤ◌, pos, ℤ, false, get_or, to_z, of_z, to_z-of_z, w64, FitsSigned, ap, sym, ◌∙◌, arith}
+use Rattle.std.proofs.Common.{◌≤ℤ◌, ◌≡◌, ◌<ℤ◌, ◌+ℤ◌, pos, neg_ℤ, ℤ, false, get_or, to_z, of_z, to_z-of_z, w64, FitsSigned, ap, sym, ◌∙◌, arith}
 use Rattle.std.proofs.lemmas.Int.{ints}
 use Rattle.rr_model.specs.Calendar.{IsDayWithin, first_day_of_year, kind_of_year}
 use Rattle.rr_model.proofs.CalendarLemmas.{first_day_of_year_mono}
 use Rattle.rr_model.proofs.StartLemmas.{IsDayWithin-start}
 use Rattle.rr_model.specs.declared.kind.Kind.TheVariants.{Days}
 use Rattle.rr_expand.specs.Years.{filling_of}
-use Rattle.rr_kinds.proofs.YearLemmas.{all_years, first_of_days, near_year, next_stored, none_walked, walked_days, walked_known, walked_new, year_stored}
+use Rattle.rr_kinds.proofs.YearLemmas.{all_years, first_of_days, near_year, next_stored, none_walked, walked_days, walked_known, walked_new, year_bounds, year_stored}
 use Rattle.rr_kinds.proofs.years.unlike_after.Goals.{then-not-seen-kind+in_default, else-not-seen-kind}
 use Rattle.rr_kinds.proofs.years.unlike_after.Goals.{Then-not-seen-kind}
 use Rattle.rr_kinds.proofs.years.unlike_after.Goals as goal
@@ -28,7 +28,7 @@ loop-next-init c =
 
 -- the year is near
 record Near (c : Then-not-seen-kind) : Type 0 where
-  taken : IsDayWithin 0 (first_day_of_year (to_z w64 c.loop-next.next-bits))
+  taken : (neg_ℤ (pos 10_000_000) ≤ℤ first_day_of_year (to_z w64 c.loop-next.next-bits)) × (first_day_of_year (to_z w64 c.loop-next.next-bits) ≤ℤ pos 10_000_000)
   first : IsDayWithin 1000 (first_day_of_year (to_z w64 c.loop-next.next-bits))
   next : IsDayWithin 1000 (first_day_of_year (to_z w64 c.loop-next.next-bits +ℤ pos 1))
 
@@ -39,7 +39,7 @@ near c =
     let b = c.loop-next.invariant.begun in
     let t = c.loop-next-test.true in
     record {
-      taken = near_year 0 (to_z w64 c.loop-next.next-bits) (omega (arith, ints, y.low, own)) (omega (arith, ints, y.end, y.high));
+      taken = year_bounds (to_z w64 c.loop-next.next-bits) (omega (arith, ints, y.low, own)) (omega (arith, ints, y.end, y.high));
       first = near_year 1000 (to_z w64 c.loop-next.next-bits) (omega (arith, ints, y.low, own)) (omega (arith, ints, y.end, y.high));
       next = near_year 1000 (to_z w64 c.loop-next.next-bits +ℤ pos 1) (omega (arith, ints, y.low, own)) (omega (arith, ints, y.end, y.high));
     }
