@@ -1,5 +1,5 @@
 // Whether two series of which each goes by kinds of years are equal.
-ghost use Rattle.std.specs.Prelude.{◌≡◌, ◌↔◌, IfNone, IfSome, IsTrue};
+ghost use Rattle.std.specs.Prelude.{◌≡◌, ◌↔◌, IfSome, IsSome, IsTrue};
 ghost use Rattle.rr_model.specs.Moment.{Before};
 ghost use Rattle.rr_model.specs.Series.Occurrences.{Occurs};
 ghost use Rattle.rr_model.specs.Series.Soundness.{IsSound};
@@ -18,7 +18,7 @@ use rr_model::{Kind, Series, Side, Verdict, day_part, moment_at, second_part};
 pub fn equal_by_kinds(a: &Checked, b: &Checked) -> Option<Verdict>
     ensures some { IfSome result (IsEqualVerdict (Occurs a.now) (Occurs b.now)) }
     ensures day { IfSome result NamesNearDay }
-    ensures none { IfNone result (GoesByKinds a.now → GoesByKinds b.now → ⊥) }
+    ensures form { IsSome result ↔ (GoesByKinds a.now × GoesByKinds b.now) }
 {
     if !goes_by_kinds(a) || !goes_by_kinds(b) {
         return None;
