@@ -14,7 +14,7 @@ help = codes "rr says whether a repeating series survived a trip between calenda
 
 -- the line that names the release
 abbrev pub version : List ℕ
-version = codes "rr 0.20.0\n"
+version = codes "rr 0.21.0\n"
 
 -- what a command prints and takes, if there is a command of this name
 abbrev pub help_of : List ℕ → Option (List ℕ)

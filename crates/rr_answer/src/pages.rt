@@ -64,7 +64,7 @@ read, 5 if the output could not be written, 6 out of memory, 7 if a word is no t
 docs/MANUAL.md, and share/doc/rr/MANUAL.md in the folder of an installation.
 ";
 
-pub const VERSION: &[u8] = b"rr 0.20.0
+pub const VERSION: &[u8] = b"rr 0.21.0
 ";
 
 pub const HELP_EQUAL: &[u8] = b"rr equal A B
