@@ -13,7 +13,7 @@ loop-other-preserved c =
     one_told_at c.args.duration (sketch c.args.days.now) (all_in c.args.others.now) c.args.others.now c.loop-other.other-index c.other-item.result
     c.loop-other.text.items c.extend_from_slice.new.self.items c.loop-other.tally.clashes c.loop-other.tally.refused c.with-tally.result.clashes
     c.with-tally.result.refused (answer_of c.in_ok-said.said) c.loop-other-test.true c.other-item.is c.loop-other.invariant c.in_ok-said.ensures
-    (c.in_ok-extend_from_slice.ensures.items ∙ ap (λ (t : List ℕ). c.loop-other.text.items ++ t) c.as_slice.ensures.value)
+    (c.in_ok-extend_from_slice.ensures.items ∙ ap (λ (t : List ℕ). c.loop-other.text.items ++ t) (c.as_slice.ensures.value ∙ c.in_ok-line.ensures))
     c.with-tally.ensures.clashes c.with-tally.ensures.refused
 
 pub returns : goal.returns
