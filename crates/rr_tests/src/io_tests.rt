@@ -1,13 +1,16 @@
 // Sources and sinks, in memory and of the system.
+ghost use Rattle.std.specs.Prelude.{◌++◌, OnOk};
+ghost use Rattle.std.specs.Io.KnownBytes.{Appends};
+
 use crate::rows::{is_said, printed};
 use rr_io::{
     FetchError, HostSink, HostSource, MemorySink, MemorySource, Sink, Source, SteadySink,
-    SteadySource,
+    SteadySource, Text,
 };
 use rr_model::MAX_INPUT;
 use std::alloc::Global;
 use std::fmt::Write;
-use std::{env, fs, process};
+use std::{env, fs, io, process};
 
 // How many bytes a fetch gives.
 fn fetched<S: Source>(alloc: Global, source: &mut S, name: &str) -> Result<usize, FetchError> {
@@ -53,6 +56,53 @@ fn memory_fails_where_it_is_listed(rt: HostRuntime) {
     is_said(&rt, memory_fetches(rt.alloc()), wanted, "fetches");
     let wanted = "Ok(()) abc|Err(Failed) abcab|Err(Failed) abcababc|Ok(()) abcababcabc|";
     is_said(&rt, memory_puts(rt.alloc()), wanted, "puts");
+}
+
+// A text of two parts, written one after the other.
+#[derive(Drop)]
+struct Parts<'a> {
+    first: &'a [u8],
+    last: &'a [u8],
+}
+
+impl Text for Parts<'_> {
+    ghost bytes = { λ p. p.first.now ++ p.last.now };
+
+    fn write_to<W: io::Write>(&self, out: &mut W) -> io::Result<()>
+        ensures { OnOk result (Appends (W.contents out.old) (W.contents out.new)
+            (self.now.first.now ++ self.now.last.now)) }
+    {
+        out.write_all(self.first)?;
+        out.write_all(self.last)
+    }
+}
+
+// Says what a put of a text of `abc` and `de` gives, and the bytes that the sink then has.
+fn say_text(alloc: Global, sink: &mut MemorySink, said: &mut String) -> Option<()> {
+    let text = Parts {
+        first: b"abc",
+        last: b"de",
+    };
+    let put = sink.put_text(alloc, &text);
+    let bytes = str::from_utf8(sink.bytes()).ok()?;
+    write!(said, "{put:?} {bytes}|").ok()
+}
+
+// Three puts of a text, of which the second is to fail in its second part.
+fn memory_texts(alloc: Global) -> Option<String> {
+    let mut sink = MemorySink::new(alloc);
+    sink.fail(2, 4).ok()?;
+    let mut said = String::new(alloc);
+    for _ in 0..3 {
+        say_text(alloc, &mut sink, &mut said)?;
+    }
+    Some(said)
+}
+
+#[test]
+fn memory_takes_texts(rt: HostRuntime) {
+    let wanted = "Ok(()) abcde|Err(Failed) abcdeabcd|Ok(()) abcdeabcdabcde|";
+    is_said(&rt, memory_texts(rt.alloc()), wanted, "texts");
 }
 
 // What a steady source that holds bytes under one name gives for a name.
