@@ -30,6 +30,8 @@ mod ical_tests;
 #[cfg(test)]
 mod io_tests;
 #[cfg(test)]
+mod kinds_tests;
+#[cfg(test)]
 mod model_tests;
 #[cfg(test)]
 mod num_tests;
