@@ -16,6 +16,7 @@ use crate::clashes::clash_outcome;
 use crate::combining::combined_outcome;
 use crate::command::{Inquiry, Operand};
 use crate::differing::differences_outcome;
+use crate::equality::{asks_equal_series, equal_outcome};
 use crate::folding::read_folded;
 use crate::outcome::{Outcome, outcome_of_fault, outcome_of_verdict};
 use crate::verdicts::verdict_outcome;
@@ -75,7 +76,7 @@ pub fn outcome_beside(
 }
 
 // Whether two operands are one text in one language with one offset, so that they state the same.
-fn is_one_text(a: Operand, text_a: &[u8], b: Operand, text_b: &[u8]) -> bool
+pub(crate) fn is_one_text(a: Operand, text_a: &[u8], b: Operand, text_b: &[u8]) -> bool
     ensures { IsTrue result
         → HaveOneText (operand_in a.entry) text_a.now (operand_in b.entry) text_b.now }
 {
@@ -109,6 +110,9 @@ pub fn pair_outcome(
     ensures { IfOk result (λ x. IsPairAnswer inquiry (IsReadOf a.entry text_a.now)
         (IsReadOf b.entry text_b.now) (answer_of x)) }
 {
+    if asks_equal_series(inquiry, a, b) {
+        return equal_outcome(alloc, a, text_a, b, text_b);
+    }
     let of_a = match read_folded(alloc, a, text_a) {
         Err(fault) => return outcome_of_fault(alloc, Side::A, fault),
         Ok(days) => days,

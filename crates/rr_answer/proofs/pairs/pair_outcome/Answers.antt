@@ -4,6 +4,7 @@ use Rattle.std.specs.Prelude.{Ok}
 use Rattle.rr_model.specs.declared.verdict.Verdict.TheVariants.{Yes}
 use Rattle.rr_answer.specs.Answer.{IsPairAnswer}
 use Rattle.rr_answer.specs.OperandReading.{IsSubjectRead}
+use Rattle.rr_answer.specs.Outcome.{answer_of}
 use Rattle.rr_answer.specs.Parsed.{operand_in}
 use Rattle.rr_answer.specs.Said.{answer_of_verdict}
 use Rattle.rr_answer.proofs.OneTextLemmas.{said_of_one_text}
@@ -19,6 +20,14 @@ outcome_beside-requires-clause-short c = folded_is_short (operand_in c.args.a) c
 
 pub outcome_beside-requires-clause-near : goal.outcome_beside-requires-clause-near
 outcome_beside-requires-clause-near c = c.in-Ok.ensures.accepted.fold.near
+
+pub returns-then-asks_equal_series : goal.returns-then-asks_equal_series
+returns-then-asks_equal_series c =
+    let asks = c.asks_equal_series.ensures c.if-asks_equal_series.true in
+    IfOk-weaker c.equal_outcome.result _ _
+    (λ x e. subst (λ i. IsPairAnswer i (IsSubjectRead (operand_in c.args.a) c.args.text_a.now) (IsSubjectRead (operand_in c.args.b) c.args.text_b.now) (answer_of x))
+    (sym asks.0) e)
+    c.equal_outcome.ensures
 
 pub returns-then-asks_of_itself : goal.returns-then-asks_of_itself
 returns-then-asks_of_itself c =
