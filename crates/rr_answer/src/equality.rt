@@ -105,8 +105,8 @@ fn equal_folded(alloc: Global, a: &Checked, b: &Checked) -> Result<Outcome, Faul
 
 /// Whether it is asked if two operands that state series are equal.
 pub(crate) fn asks_equal_series(inquiry: Inquiry, a: Operand, b: Operand) -> bool
-    ensures { IsTrue result → (inquiry ≡ Ask Equal) × StatesSeries a.language
-        × StatesSeries b.language }
+    ensures { IsTrue result → (inquiry ≡ Ask Equal) × StatesSeries a.entry.language
+        × StatesSeries b.entry.language }
 {
     match inquiry {
         Inquiry::Verdict(Question::Equal) => states_series(a.language) && states_series(b.language),
