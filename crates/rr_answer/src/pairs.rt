@@ -15,6 +15,7 @@ use crate::clashes::clash_outcome;
 use crate::combining::combined_outcome;
 use crate::command::{Inquiry, Operand};
 use crate::differing::differences_outcome;
+use crate::equality::{asked_series, equal_outcome};
 use crate::folding::read_folded;
 use crate::outcome::{Outcome, outcome_of_fault, outcome_of_verdict};
 use crate::verdicts::verdict_outcome;
@@ -72,7 +73,7 @@ pub fn outcome_beside(
 }
 
 // Whether two operands are one text in one language with one offset, so that they state the same.
-fn is_one_text(a: Operand, text_a: &[u8], b: Operand, text_b: &[u8]) -> bool
+pub(crate) fn is_one_text(a: Operand, text_a: &[u8], b: Operand, text_b: &[u8]) -> bool
     ensures { IsTrue result
         → HaveOneText (operand_in a.entry) text_a.now (operand_in b.entry) text_b.now }
 {
@@ -93,7 +94,7 @@ fn asks_of_itself(inquiry: &Inquiry, a: Operand, text_a: &[u8], b: Operand, text
 /// What is said of the bytes of two operands: the refusal of A, otherwise that of B, otherwise that of both, otherwise what is
 /// asked of them.
 ///
-/// B is not read if A is refused, or if equality is asked of one text twice.
+/// B is not read if A is refused, or if equality is asked of one text twice and A is folded.
 pub fn pair_outcome(
     alloc: Global,
     inquiry: Inquiry,
@@ -105,6 +106,9 @@ pub fn pair_outcome(
     ensures { IfOk result (λ x. IsPairAnswer inquiry (IsReadOf a.entry text_a.now)
         (IsReadOf b.entry text_b.now) (answer_of x)) }
 {
+    if let Some(series) = asked_series(inquiry, a, b) {
+        return equal_outcome(alloc, series.a, text_a, series.b, text_b);
+    }
     let of_a = match read_folded(alloc, a, text_a) {
         Err(fault) => return outcome_of_fault(alloc, Side::A, fault),
         Ok(days) => days,

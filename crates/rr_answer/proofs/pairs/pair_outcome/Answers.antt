@@ -4,8 +4,10 @@ use Rattle.std.specs.Prelude.{Ok}
 use Rattle.rr_model.specs.declared.verdict.Verdict.TheVariants.{Yes}
 use Rattle.rr_answer.specs.Answer.{IsPairAnswer}
 use Rattle.rr_answer.specs.OperandReading.{IsSubjectRead}
-use Rattle.rr_answer.specs.Parsed.{operand_in}
+use Rattle.rr_answer.specs.Outcome.{answer_of}
+use Rattle.rr_answer.specs.Parsed.{operand_in, series_operand_in}
 use Rattle.rr_answer.specs.Said.{answer_of_verdict}
+use Rattle.rr_answer.proofs.EqualityLemmas.{said_of_operands}
 use Rattle.rr_answer.proofs.OneTextLemmas.{said_of_one_text}
 use Rattle.rr_answer.proofs.SaidOfBothLemmas.{fold_from_year_one}
 use Rattle.rr_answer.proofs.ShortLemmas.{folded_is_short}
@@ -19,6 +21,16 @@ outcome_beside-requires-clause-short c = folded_is_short (operand_in c.args.a) c
 
 pub outcome_beside-requires-clause-near : goal.outcome_beside-requires-clause-near
 outcome_beside-requires-clause-near c = c.in-Ok.ensures.accepted.fold.near
+
+pub returns-in-Some : goal.returns-in-Some
+returns-in-Some c =
+    let asked = c.in-Some.ensures in
+    IfOk-weaker c.equal_outcome.result _ _
+    (λ x e. subst (λ i. IsPairAnswer i (IsSubjectRead (operand_in c.args.a) c.args.text_a.now) (IsSubjectRead (operand_in c.args.b) c.args.text_b.now) (answer_of x))
+    (sym asked.0)
+    (said_of_operands (operand_in c.args.a) (operand_in c.args.b) (series_operand_in c.in-Some.series.a) (series_operand_in c.in-Some.series.b)
+    c.args.text_a.now c.args.text_b.now (answer_of x) asked.1 asked.2 e))
+    c.equal_outcome.ensures
 
 pub returns-then-asks_of_itself : goal.returns-then-asks_of_itself
 returns-then-asks_of_itself c =
