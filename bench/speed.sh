@@ -45,10 +45,10 @@ lines 240 'each hour' 20240101T090000 'FREQ=HOURLY'
 lines 450 'each seventh hour' 20240101T090000 'FREQ=HOURLY;INTERVAL=7'
 lines 210 'each minute' 20240101T090000 'FREQ=MINUTELY'
 lines 300 'each second' 20240101T090000 'FREQ=SECONDLY'
-lines 2870 'by place, the last workday of each month' 20240131 'FREQ=MONTHLY;BYDAY=MO,TU,WE,TH,FR;BYSETPOS=-1'
+lines 1680 'by place, the last workday of each month' 20240131 'FREQ=MONTHLY;BYDAY=MO,TU,WE,TH,FR;BYSETPOS=-1'
 series working 20240101 'FREQ=DAILY'
 printf 'EXRULE:FREQ=WEEKLY;BYDAY=SA,SU\n' >>"$scratch/working"
-counted 2450 100000 'each day but Saturdays and Sundays' list 100000 "rrule:$scratch/working"
+counted 1700 100000 'each day but Saturdays and Sundays' list 100000 "rrule:$scratch/working"
 
 series weekdays 20240101 'FREQ=WEEKLY;BYDAY=MO,WE,FR'
 series weekdays-other 20240101 'FREQ=DAILY;BYDAY=MO,WE,FR'
@@ -63,7 +63,7 @@ echo 'instructions of an everyday verdict'
 series working-other 20240101 'FREQ=WEEKLY;BYDAY=MO,TU,WE,TH,FR'
 pair 190000 weekdays
 pair 2320000 second-tuesday
-pair 1680000 leap-day
+pair 440000 leap-day
 pair 2260000 far
 pair 240000 working
 

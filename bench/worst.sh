@@ -64,8 +64,11 @@ measure 10 1 'canon, 113 sets that take turns' canon "rrule:$scratch/turns"
 measure 10 1 'canon, seven hours beside a long rule' canon "rrule:$scratch/hours"
 measure 10 1 'canon, 113 seconds beside a long rule' canon "rrule:$scratch/minutes"
 measure 10 1 'canon, a text of 200 megabytes' canon "rrule:$scratch/counted-seconds"
+# (these two hold more before the first byte goes out: the days of the series, and the least sequence)
+megabytes=500
 measure 10 1 'canon, long seconds and hours' canon "rrule:$scratch/seconds-and-hours"
 measure 10 1 'canon, a text of 330 megabytes' canon "rrule:$scratch/minutes-and-days"
+megabytes=250
 measure 10 1 'equal, counted rules and 10,000 dates' equal "rrule:$scratch/sixteen" "rrule:$scratch/sixteen"
 measure 10 1 'infer, 582 leap days and a date' infer "rrule:$scratch/leap-days"
 { echo DTSTART:20240101; yes RDATE:20240102 | head -n 10000; yes "X-NOTE:$numbers" | head -n 4900; } >"$scratch/megabyte"
