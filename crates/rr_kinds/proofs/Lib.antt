@@ -1,5 +1,11 @@
 pub mod BitLemmas
 pub mod OptionLemmas
+pub mod PlaceLemmas
+pub mod ChosenLemmas
+pub mod KeyLemmas
+pub mod SameLemmas
+pub mod OrdinalLemmas
+pub mod ItemLemmas
 pub mod YearLemmas
 pub mod OccursLemmas
 pub mod StartLemmas

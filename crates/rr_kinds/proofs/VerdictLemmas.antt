@@ -19,8 +19,8 @@ use Rattle.rr_model.proofs.DaysAndTimesLemmas.{day_at, moment_is, second_at, sec
 use Rattle.rr_model.proofs.OrderLemmas.{day_mono}
 use Rattle.rr_model.proofs.SideLemmas.{HoldsOnlyOf-same}
 use Rattle.rr_model.proofs.WholeLemmas.{floor_whole}
-use Rattle.rr_expand.specs.Years.{allows_day, filling_of}
-use Rattle.rr_kinds.specs.Days.{AllowSameFrom, IsFirstUnlikeDay}
+use Rattle.rr_expand.specs.Years.{filling_of}
+use Rattle.rr_kinds.specs.Days.{ChooseSameFrom, IsFirstUnlikeDay, chooses_day}
 use Rattle.rr_kinds.specs.Form.{GoByKindsTogether}
 use Rattle.rr_kinds.specs.declared.years.UnlikeDay.{UnlikeDay}
 use Rattle.rr_kinds.proofs.OccursLemmas.{IsOnDay, occurs_is}
@@ -50,19 +50,19 @@ module _ (r q : Rule) (kind : Kind) (start : ℤ) where
   abbrev second : ℕ
   second = second_part kind start
 
-  -- what is on a day of one is on one of the other, if both allow the day
-  carried : (f g : Rule) (k : Kind) (t : ℤ) → allows_day (filling_of f day) (day_part kind t) ≡ allows_day (filling_of g day) (day_part kind t)
+  -- what is on a day of one is on one of the other, if both choose the day
+  carried : (f g : Rule) (k : Kind) (t : ℤ) → chooses_day (filling_of f day) (day_part kind t) ≡ chooses_day (filling_of g day) (day_part kind t)
       → IsOnDay f kind start k t → IsOnDay g kind start k t
-  carried f g k t same h = record { of_kind = h.of_kind; not_before = h.not_before; allowed = sym same ∙ h.allowed; at_second = h.at_second }
+  carried f g k t same h = record { of_kind = h.of_kind; not_before = h.not_before; chosen = sym same ∙ h.chosen; at_second = h.at_second }
 
-  same_on : (k : Kind) (t : ℤ) → (IsOnDay r kind start k t ⊎ IsOnDay q kind start k t → allows_day (filling_of r day) (day_part kind t) ≡ allows_day (filling_of q day) (day_part kind t))
+  same_on : (k : Kind) (t : ℤ) → (IsOnDay r kind start k t ⊎ IsOnDay q kind start k t → chooses_day (filling_of r day) (day_part kind t) ≡ chooses_day (filling_of q day) (day_part kind t))
       → IsOnDay r kind start k t ↔ IsOnDay q kind start k t
   same_on k t same = ((λ h. carried r q k t (same (inl h)) h), (λ h. carried q r k t (sym (same (inr h))) h))
 
   day_late : (f : Rule) (k : Kind) (t : ℤ) → IsOnDay f kind start k t → day ≤ℤ day_part kind t
   day_late f k t h = day_mono kind start t h.not_before
 
-  pub all_same : AllowSameFrom (filling_of r day) (filling_of q day) day → (k : Kind) (t : ℤ) → IsOnDay r kind start k t ↔ IsOnDay q kind start k t
+  pub all_same : ChooseSameFrom (filling_of r day) (filling_of q day) day → (k : Kind) (t : ℤ) → IsOnDay r kind start k t ↔ IsOnDay q kind start k t
   all_same same k t = same_on k t (λ either. elim either [
     | inl h ↦ same (day_part kind t) (day_late r k t h)
     | inr h ↦ same (day_part kind t) (day_late q k t h)
@@ -75,22 +75,22 @@ module _ (r q : Rule) (kind : Kind) (start : ℤ) where
     at_day : day_part kind at ≡ found.day
     at_day = day_at kind found.day second (second_part-below kind start)
 
-    on_found : (f : Rule) → IsTrue (allows_day (filling_of f day) found.day) ↔ IsOnDay f kind start kind at
+    on_found : (f : Rule) → IsTrue (chooses_day (filling_of f day) found.day) ↔ IsOnDay f kind start kind at
     on_found f = (
       (λ t. record {
         of_kind = refl;
         not_before = subst (λ x. x ≤ℤ at) (sym (moment_is kind start)) (later_day kind day found.day second is.not_before);
-        allowed = subst (λ x. IsTrue (allows_day (filling_of f day) x)) (sym at_day) t;
+        chosen = subst (λ x. IsTrue (chooses_day (filling_of f day) x)) (sym at_day) t;
         at_second = second_at kind found.day second (second_part-below kind start);
       }),
-      (λ h. subst (λ x. IsTrue (allows_day (filling_of f day) x)) at_day h.allowed),
+      (λ h. subst (λ x. IsTrue (chooses_day (filling_of f day) x)) at_day h.chosen),
     )
 
     pub only_found : HoldsOnlyOf found.side (IsOnDay r kind start kind at) (IsOnDay q kind start kind at)
     only_found = HoldsOnlyOf-same found.side _ _ _ _ (on_found r) (on_found q) is.unlike
 
     before_found : (f : Rule) (l : Kind) (u : ℤ) → Before l u kind at → IsOnDay f kind start l u
-        → allows_day (filling_of r day) (day_part kind u) ≡ allows_day (filling_of q day) (day_part kind u)
+        → chooses_day (filling_of r day) (day_part kind u) ≡ chooses_day (filling_of q day) (day_part kind u)
     before_found f l u b h = is.before (day_part kind u) (day_late f l u h) (day_before l kind u found.day second h.of_kind h.at_second b)
 
     pub same_before : (l : Kind) (u : ℤ) → Before l u kind at → IsOnDay r kind start l u ↔ IsOnDay q kind start l u
@@ -121,7 +121,7 @@ module _ (a b : Series) (together : GoByKindsTogether a b) (sound_a : IsSound a)
   of_b k t = subst (λ s. Occurs b k t ↔ IsOnDay q a.kind s k t) (sym together.start)
       (subst (λ x. Occurs b k t ↔ IsOnDay q x b.start k t) (sym together.kind) (occurs_is b together.second sound_b k t))
 
-  pub yes : AllowSameFrom (filling_of r (day_part a.kind a.start)) (filling_of q (day_part a.kind a.start)) (day_part a.kind a.start)
+  pub yes : ChooseSameFrom (filling_of r (day_part a.kind a.start)) (filling_of q (day_part a.kind a.start)) (day_part a.kind a.start)
       → IsEqualVerdict (Occurs a) (Occurs b) Yes
   yes same k t = both_ways (of_a k t) (of_b k t) (all_same r q a.kind a.start same k t)
 
@@ -141,10 +141,10 @@ same_rule rules xs x rule e at one is =
     at ∙ ap (λ l. get_or l 0 x) e ∙ get_or_default rules 0 x rule (omega (arith, one)) ∙ is
 
 module _ (x r y q : Rule) (s day : ℤ) (first : x ≡ r) (second : y ≡ q) (at : s ≡ day) where
-  pub none_as : AllowSameFrom (filling_of x s) (filling_of y s) s → AllowSameFrom (filling_of r day) (filling_of q day) day
+  pub none_as : ChooseSameFrom (filling_of x s) (filling_of y s) s → ChooseSameFrom (filling_of r day) (filling_of q day) day
   none_as h =
-      subst (λ d. AllowSameFrom (filling_of r d) (filling_of q d) d) at
-      (subst (λ f. AllowSameFrom (filling_of f s) (filling_of q s) s) first (subst (λ g. AllowSameFrom (filling_of x s) (filling_of g s) s) second h))
+      subst (λ d. ChooseSameFrom (filling_of r d) (filling_of q d) d) at
+      (subst (λ f. ChooseSameFrom (filling_of f s) (filling_of q s) s) first (subst (λ g. ChooseSameFrom (filling_of x s) (filling_of g s) s) second h))
 
   pub some_as : (found : UnlikeDay) → IsFirstUnlikeDay (filling_of x s) (filling_of y s) s found → IsFirstUnlikeDay (filling_of r day) (filling_of q day) day found
   some_as found h =

@@ -1,5 +1,5 @@
--- The days that two rules allow, year by year.
-use Rattle.std.proofs.Common.{◌≡◌, ◌⊎◌, ℕ, ◌<◌, ◌≤◌, Bool, true, false, ◌&&◌, List, [], ◌∷◌, get_or, replicate, ℤ, pos, neg_ℤ, nat_abs, ◌+ℤ◌, ◌-ℤ◌, ◌*ℤ◌, ◌≤ℤ◌, ◌<ℤ◌}
+-- The days that two rules choose, year by year.
+use Rattle.std.proofs.Common.{◌≡◌, ◌⊎◌, ℕ, ◌*◌, ◌<◌, ◌≤◌, Bool, true, false, ◌&&◌, List, get_or, replicate, ℤ, pos, neg_ℤ, nat_abs, ◌+ℤ◌, ◌-ℤ◌, ◌*ℤ◌, ◌≤ℤ◌, ◌<ℤ◌}
 use Rattle.std.proofs.Common.{refl, sym, ap, subst, ◌∙◌, inl, inr, arith, rules, to_z, of_z, to_z-of_z, w64, FitsSigned}
 use Rattle.std.specs.Prelude.{◌↔◌, IsTrue, nat_lt}
 use Rattle.std.specs.List.{slice_set}
@@ -9,12 +9,8 @@ use Rattle.std.proofs.lemmas.Int.{ints, by_lt_z}
 use Rattle.std.proofs.lemmas.List.{get_or_past, get_or-replicate, get_or-set_other, length-replicate}
 use Rattle.rr_model.specs.Calendar.{IsDayWithin, days_in_year, days_into_year, first_day_of_year, kind_of_year, year_of}
 use Rattle.rr_model.specs.Moment.Years.{HasFourDigitYear}
-use Rattle.rr_model.specs.Rule.Validity.{is_absent}
 use Rattle.rr_model.specs.Sets.Verdict.{HoldsOnlyOf}
 use Rattle.rr_model.specs.Whole.{floor_div, floor_mod}
-use Rattle.rr_model.specs.declared.rule.Freq.{Freq}
-use Rattle.rr_model.specs.declared.rule.Freq.TheVariants.{Secondly, Minutely, Hourly, Daily, Weekly, Monthly, Yearly}
-use Rattle.rr_model.specs.declared.rule.Rule.{Rule}
 use Rattle.rr_model.specs.declared.verdict.Side.{Side}
 use Rattle.rr_model.specs.declared.verdict.Side.TheVariants.{A, B, Both}
 use Rattle.rr_model.proofs.CalendarLawProofs.{calendar_repeats}
@@ -22,11 +18,12 @@ use Rattle.rr_model.proofs.CalendarLemmas.{IsInYear-year_of, days_in_year_bounds
 use Rattle.rr_model.proofs.CalendarLemmas.{first_day_of_year_bounds, first_day_of_year_mono}
 use Rattle.rr_model.proofs.SideLemmas.{HoldsOnlyOf-same}
 use Rattle.rr_model.proofs.WholeLemmas.{floor_mod_below, floor_whole}
-use Rattle.rr_expand.specs.Years.{Filling, IsYearMask, allows_day, allows_day_of_year, filling_of, mask_key}
-use Rattle.rr_expand.proofs.KeyWeekLemmas.{equal_keys_have_equal_masks}
-use Rattle.rr_kinds.specs.Days.{AllowSame, AllowSameFrom, AllowSameOfYear, AreSetAlike, IsFirstUnlikeBit, IsFirstUnlikeDay, IsFirstUnlikeOfYear}
-use Rattle.rr_kinds.specs.Form.{HaveSameParts}
-use Rattle.rr_kinds.specs.Walked.{AreWalked}
+use Rattle.rr_expand.specs.Years.{Filling}
+use Rattle.rr_kinds.specs.Days.{AreSetAlike, ChooseSame, ChooseSameFrom, ChooseSameOfYear, IsChosenMask, IsFirstUnlikeBit, IsFirstUnlikeDay}
+use Rattle.rr_kinds.specs.Days.{IsFirstUnlikeOfYear, chooses_day, chooses_day_of_year}
+use Rattle.rr_kinds.specs.Form.{IsToldByYears}
+use Rattle.rr_kinds.specs.Walked.{AreWalked, year_fits, year_key}
+use Rattle.rr_kinds.proofs.KeyLemmas.{AreOfOneKey, fits_later, same_of_kind, told_by_keys}
 use Rattle.rr_kinds.specs.declared.masks.UnlikeBit.{UnlikeBit}
 use Rattle.rr_kinds.specs.declared.years.UnlikeDay.{UnlikeDay}
 
@@ -47,15 +44,15 @@ some_holds Both P Q h = absurd h
 
 -- ---- the masks of one year
 
-module _ (f g : Filling) (year : ℤ) (a b : List ℕ) (mask_a : IsYearMask f year a) (mask_b : IsYearMask g year b) (from : ℕ) where
+module _ (f g : Filling) (year : ℤ) (a b : List ℕ) (mask_a : IsChosenMask f year a) (mask_b : IsChosenMask g year b) (from : ℕ) where
   -- no day lies past those that have a bit
-  past : (h : Filling) (k : ℕ) → 384 ≤ k → allows_day_of_year h year k ≡ false
+  past : (h : Filling) (k : ℕ) → 384 ≤ k → chooses_day_of_year h year k ≡ false
   past h k high =
       let few = days_in_year_bounds year in
       let none : nat_lt k (days_in_year year) ≡ false = grind (arith, nat_tests) in
       rw none refl
 
-  pub same_of_year : AreSetAlike a b from 384 → AllowSameOfYear f g year from
+  pub same_of_year : AreSetAlike a b from 384 → ChooseSameOfYear f g year from
   same_of_year alike k l = elim (cases_lt k 384) [
     | inl low ↦ sym (mask_a k low) ∙ alike k l low ∙ mask_b k low
     | inr high ↦ past f k high ∙ sym (past g k high)
@@ -78,18 +75,18 @@ module _ (f g : Filling) (year : ℤ) where
   first = first_day_of_year year
 
   -- what the tests of one year say of a day of it
-  of_year : (k : ℕ) → k < days_in_year year → allows_day_of_year f year k ≡ allows_day_of_year g year k
-      → allows_day f (first +ℤ pos k) ≡ allows_day g (first +ℤ pos k)
+  of_year : (k : ℕ) → k < days_in_year year → chooses_day_of_year f year k ≡ chooses_day_of_year g year k
+      → chooses_day f (first +ℤ pos k) ≡ chooses_day g (first +ℤ pos k)
   of_year k low e =
       let t : nat_lt k (days_in_year year) ≡ true = grind (arith, nat_tests) in
       strip (nat_lt k (days_in_year year)) _ _ t e
 
-  day_is : (d : ℤ) (k : ℕ) → d ≡ first +ℤ pos k → k < days_in_year year → allows_day_of_year f year k ≡ allows_day_of_year g year k
-      → allows_day f d ≡ allows_day g d
-  day_is d k is low e = subst (λ x. allows_day f x ≡ allows_day g x) (sym is) (of_year k low e)
+  day_is : (d : ℤ) (k : ℕ) → d ≡ first +ℤ pos k → k < days_in_year year → chooses_day_of_year f year k ≡ chooses_day_of_year g year k
+      → chooses_day f d ≡ chooses_day g d
+  day_is d k is low e = subst (λ x. chooses_day f x ≡ chooses_day g x) (sym is) (of_year k low e)
 
   -- from one day of the year on up to its end
-  pub same_to_end : (from : ℕ) → AllowSameOfYear f g year from → AllowSame f g (first +ℤ pos from) (first_day_of_year (year +ℤ pos 1))
+  pub same_to_end : (from : ℕ) → ChooseSameOfYear f g year from → ChooseSame f g (first +ℤ pos from) (first_day_of_year (year +ℤ pos 1))
   same_to_end from same d l m =
       let k : ℕ = nat_abs (d -ℤ first) in
       let is : d ≡ first +ℤ pos k = omega (arith, ints, l) in
@@ -101,18 +98,18 @@ module _ (f g : Filling) (year : ℤ) where
 
     within : found.bit < days_in_year year
     within = elim (some_holds found.side _ _ is.unlike) [
-      | inl t ↦ below (and_parts (nat_lt found.bit (days_in_year year)) (allows_day f (first +ℤ pos found.bit)) t).0
-      | inr t ↦ below (and_parts (nat_lt found.bit (days_in_year year)) (allows_day g (first +ℤ pos found.bit)) t).0
+      | inl t ↦ below (and_parts (nat_lt found.bit (days_in_year year)) (chooses_day f (first +ℤ pos found.bit)) t).0
+      | inr t ↦ below (and_parts (nat_lt found.bit (days_in_year year)) (chooses_day g (first +ℤ pos found.bit)) t).0
     ]
 
     lies : nat_lt found.bit (days_in_year year) ≡ true
     lies = let w = within in grind (arith, nat_tests)
 
-    true_of_day : (h : Filling) → IsTrue (allows_day_of_year h year found.bit) ↔ IsTrue (allows_day h (first +ℤ pos found.bit))
+    true_of_day : (h : Filling) → IsTrue (chooses_day_of_year h year found.bit) ↔ IsTrue (chooses_day h (first +ℤ pos found.bit))
     true_of_day h = rw lies ((λ t. t), (λ t. t))
 
     pub first_of_days : (neg_ℤ (pos 10_000_000) ≤ℤ first) × (first ≤ℤ pos 10_000_000) → (at : UnlikeDay) → at.day ≡ first +ℤ pos found.bit → at.side ≡ found.side → start ≤ℤ (first +ℤ pos from)
-        → AllowSame f g start (first +ℤ pos from) → IsFirstUnlikeDay f g start at
+        → ChooseSame f g start (first +ℤ pos from) → IsFirstUnlikeDay f g start at
     first_of_days near at day_at side_at order earlier = record {
       not_before = omega (arith, ints, order, is.not_before, day_at);
       near = (omega (arith, ints, near.0, day_at), omega (arith, ints, near.1, day_at, is.below));
@@ -147,75 +144,81 @@ module _ (f g : Filling) (from : ℤ) where
       by_lt_z {P = P} (year_of d) next (λ h. h)
       (λ high. absurd (omega (arith, ints, (IsInYear-year_of d).begun, l, first_day_of_year_mono next (year_of d) high)))
 
-  same_day : (d : ℤ) → AllowSameOfYear f g (year_of d) 0 → allows_day f d ≡ allows_day g d
+  same_day : (d : ℤ) → ChooseSameOfYear f g (year_of d) 0 → chooses_day f d ≡ chooses_day g d
   same_day d same = day_is f g (year_of d) d (days_into_year d) (days_into_year_is d) (days_into_year_below d) (same (days_into_year d) (omega arith))
 
-  pub walked_days : (next : ℤ) → ((z : ℤ) → from ≤ℤ z → z <ℤ next → AllowSameOfYear f g z 0) → AllowSame f g (first_day_of_year from) (first_day_of_year next)
+  pub walked_days : (next : ℤ) → ((z : ℤ) → from ≤ℤ z → z <ℤ next → ChooseSameOfYear f g z 0) → ChooseSame f g (first_day_of_year from) (first_day_of_year next)
   walked_days next years d l m = same_day d (years (year_of d) (not_earlier d l) (earlier d next m))
 
-  -- before the first one none is walked, and no kind is seen
+  -- before the first one none is walked, and no key is seen
   pub none_walked : (next : ℤ) (count : ℕ) → next ≡ from → AreWalked f g from next (replicate count false)
   none_walked next count is = record {
     begun = omega (arith, ints, is);
     within = omega (arith, ints, is);
     years = λ z l m. absurd (omega (arith, ints, l, m, is));
-    kinds = λ z e. absurd (false≢true (sym (none count (kind_of_year z)) ∙ e));
+    keys = λ z e. absurd (false≢true (sym (none count (year_key f.rule g.rule (year_of f.start_day) z)) ∙ e));
   }
 
-  module _ (weeks_f : is_absent f.rule.by_week_no ≡ true) (weeks_g : is_absent g.rule.by_week_no ≡ true) where
-    -- years of one kind have one key
-    one_key : (rule : Rule) (y z : ℤ) → is_absent rule.by_week_no ≡ true → kind_of_year y ≡ kind_of_year z → mask_key rule y ≡ mask_key rule z
-    one_key rule y z weeks e = rw (weeks, e) refl
+  module _ (told_f : IsToldByYears f.rule) (told_g : IsToldByYears g.rule) (one_start : g.start_day ≡ f.start_day) where
+    abbrev key : ℤ → ℕ
+    key z = year_key f.rule g.rule (year_of f.start_day) z
 
-    -- what both allow in a year they allow in each year of its kind
-    of_kind : (y z : ℤ) → kind_of_year y ≡ kind_of_year z → AllowSameOfYear f g y 0 → AllowSameOfYear f g z 0
-    of_kind y z e same k l =
-        sym (equal_keys_have_equal_masks f y z (one_key f.rule y z weeks_f e) k)
-        ∙ same k l
-        ∙ equal_keys_have_equal_masks g y z (one_key g.rule y z weeks_g e) k
+    -- what both choose in a year they choose in each year of its key
+    of_key : (y z : ℤ) → AreOfOneKey f.rule g.rule (year_of f.start_day) y z → ChooseSameOfYear f g y 0 → ChooseSameOfYear f g z 0
+    of_key y z same here k l =
+        let second = subst (λ s. year_fits g.rule.freq g.rule.interval (year_of s) y ≡ year_fits g.rule.freq g.rule.interval (year_of s) z) (sym one_start) same.second in
+        sym (same_of_kind f y z told_f same.kind same.first k) ∙ here k l ∙ same_of_kind g y z told_g same.kind second k
 
-    one_more : (next : ℤ) → ((z : ℤ) → from ≤ℤ z → z <ℤ next → AllowSameOfYear f g z 0) → AllowSameOfYear f g next 0
-        → (z : ℤ) → from ≤ℤ z → z <ℤ (next +ℤ pos 1) → AllowSameOfYear f g z 0
+    one_more : (next : ℤ) → ((z : ℤ) → from ≤ℤ z → z <ℤ next → ChooseSameOfYear f g z 0) → ChooseSameOfYear f g next 0
+        → (z : ℤ) → from ≤ℤ z → z <ℤ (next +ℤ pos 1) → ChooseSameOfYear f g z 0
     one_more next years here z l m =
-        let P : Type 0 = AllowSameOfYear f g z 0 in
+        let P : Type 0 = ChooseSameOfYear f g z 0 in
         by_lt_z {P = P} z next (λ low. years z l low)
-        (λ high. (let e : next ≡ z = omega (arith, ints, high, m) in subst (λ y. AllowSameOfYear f g y 0) e here))
+        (λ high. (let e : next ≡ z = omega (arith, ints, high, m) in subst (λ y. ChooseSameOfYear f g y 0) e here))
 
-    -- one year more, of a kind that was seen
-    pub walked_known : (next : ℤ) (seen : List Bool) → AreWalked f g from next seen → get_or seen (kind_of_year next) false ≡ true
+    -- one year more, of a key that was seen
+    pub walked_known : (next : ℤ) (seen : List Bool) → AreWalked f g from next seen → get_or seen (key next) false ≡ true
         → next <ℤ (from +ℤ pos 400) → AreWalked f g from (next +ℤ pos 1) seen
     walked_known next seen walked known more = record {
       begun = omega (arith, ints, walked.begun);
       within = omega (arith, ints, more);
-      years = one_more next walked.years (walked.kinds next known);
-      kinds = walked.kinds;
+      years = one_more next walked.years (walked.keys next known);
+      keys = walked.keys;
     }
 
-    -- one year more, of a kind that is seen now
-    pub walked_new : (next : ℤ) (seen : List Bool) (kind : ℕ) → kind ≡ kind_of_year next → AreWalked f g from next seen
-        → AllowSameOfYear f g next 0 → next <ℤ (from +ℤ pos 400) → AreWalked f g from (next +ℤ pos 1) (slice_set seen kind true)
-    walked_new next seen kind is walked here more = record {
+    -- one year more, of a key that is seen now
+    pub walked_new : (next : ℤ) (seen : List Bool) (now : ℕ) → now ≡ key next → AreWalked f g from next seen
+        → ChooseSameOfYear f g next 0 → next <ℤ (from +ℤ pos 400) → AreWalked f g from (next +ℤ pos 1) (slice_set seen now true)
+    walked_new next seen now is walked here more = record {
       begun = omega (arith, ints, walked.begun);
       within = omega (arith, ints, more);
       years = one_more next walked.years here;
-      kinds = λ z e. elim (cases_eq (kind_of_year z) kind) [
-        | inl same ↦ of_kind next z (sym is ∙ sym same) here
-        | inr other ↦ walked.kinds z (sym (get_or-set_other seen kind (kind_of_year z) true false other) ∙ e)
+      keys = λ z e. elim (cases_eq (key z) now) [
+        | inl same ↦ of_key next z (told_by_keys f.rule g.rule (year_of f.start_day) next z (sym is ∙ sym same)) here
+        | inr other ↦ walked.keys z (sym (get_or-set_other seen now (key z) true false other) ∙ e)
       ];
     }
 
     -- 400 years tell all that follow
-    pub all_years : (next : ℤ) (seen : List Bool) → (from +ℤ pos 400) ≤ℤ next → AreWalked f g from next seen → AllowSameFrom f g (first_day_of_year from)
+    pub all_years : (next : ℤ) (seen : List Bool) → (from +ℤ pos 400) ≤ℤ next → AreWalked f g from next seen → ChooseSameFrom f g (first_day_of_year from)
     all_years next seen end walked d l =
         let z : ℤ = year_of d in
+        let start : ℤ = year_of f.start_day in
         let q : ℤ = floor_div (z -ℤ from) 400 in
         let r : ℕ = floor_mod (z -ℤ from) 400 in
+        let a : ℕ = nat_abs q in
         let y : ℤ = from +ℤ pos r in
         let whole = floor_whole (z -ℤ from) 400 (omega arith) in
-        let later : z ≡ y +ℤ (pos 400 *ℤ q) = omega (arith, ints, whole) in
-        let kinds : kind_of_year y ≡ kind_of_year z = sym (ap kind_of_year later ∙ (calendar_repeats.years q y).kind) in
         let below = floor_mod_below (z -ℤ from) 400 (omega arith) in
-        same_day d (of_kind y z kinds (walked.years y (omega (arith, ints)) (omega (arith, ints, below, end))))
+        let late = not_earlier d l in
+        let later : z ≡ y +ℤ (pos 400 *ℤ q) = omega (arith, ints, whole) in
+        let turns : z ≡ y +ℤ pos (400 * a) = omega (arith, ints, whole, below, late) in
+        let same : AreOfOneKey f.rule g.rule start y z = record {
+          kind = sym (ap kind_of_year later ∙ (calendar_repeats.years q y).kind);
+          first = sym (ap (year_fits f.rule.freq f.rule.interval start) turns ∙ fits_later f.rule.freq f.rule.interval a start y told_f.units);
+          second = sym (ap (year_fits g.rule.freq g.rule.interval start) turns ∙ fits_later g.rule.freq g.rule.interval a start y told_g.units);
+        } in
+        same_day d (of_key y z same (walked.years y (omega (arith, ints)) (omega (arith, ints, below, end))))
 
 -- ---- the years of a start
 
@@ -251,8 +254,8 @@ pub record AreStored (year : ℤ) : Type 0 where
   pub fits_end : FitsSigned w64 (to_z w64 (of_z w64 (to_z w64 (of_z w64 year) +ℤ pos 1)) +ℤ pos 400)
   pub end : to_z w64 (of_z w64 (to_z w64 (of_z w64 (to_z w64 (of_z w64 year) +ℤ pos 1)) +ℤ pos 400)) ≡ year +ℤ pos 401
 
-year_fits : (year more : ℤ) → (pos 0 ≤ℤ year) × (year ≤ℤ pos 20_000) → (pos 0 ≤ℤ more) × (more ≤ℤ pos 1_000) → FitsSigned w64 (year +ℤ more)
-year_fits year more (low, high) (few, many) = search rules
+sum_fits : (year more : ℤ) → (pos 0 ≤ℤ year) × (year ≤ℤ pos 20_000) → (pos 0 ≤ℤ more) × (more ≤ℤ pos 1_000) → FitsSigned w64 (year +ℤ more)
+sum_fits year more (low, high) (few, many) = search rules
 
 pub year_stored : (day year : ℤ) → HasFourDigitYear day → year ≡ year_of day → FitsSigned w64 year → AreStored year
 year_stored day year h is fits =
@@ -260,10 +263,10 @@ year_stored day year h is fits =
     let low : pos 1 ≤ℤ year = omega (arith, ints, s.0, is) in
     let high : year ≤ℤ pos 9_999 = omega (arith, ints, s.1, is) in
     let own = to_z-of_z fits in
-    let one : FitsSigned w64 (year +ℤ pos 1) = year_fits year (pos 1) (omega (arith, ints, low), omega (arith, ints, high)) (omega (arith, ints), omega (arith, ints)) in
+    let one : FitsSigned w64 (year +ℤ pos 1) = sum_fits year (pos 1) (omega (arith, ints, low), omega (arith, ints, high)) (omega (arith, ints), omega (arith, ints)) in
     let next : to_z w64 (of_z w64 (year +ℤ pos 1)) ≡ year +ℤ pos 1 = to_z-of_z one in
     let more : FitsSigned w64 ((year +ℤ pos 1) +ℤ pos 400) =
-    year_fits (year +ℤ pos 1) (pos 400) (omega (arith, ints, low), omega (arith, ints, high)) (omega (arith, ints), omega (arith, ints)) in
+    sum_fits (year +ℤ pos 1) (pos 400) (omega (arith, ints, low), omega (arith, ints, high)) (omega (arith, ints), omega (arith, ints)) in
     record {
       low = low;
       high = high;
@@ -275,7 +278,7 @@ year_stored day year h is fits =
 
 -- the year after one that is walked
 pub next_stored : (year : ℤ) → pos 0 ≤ℤ year → year ≤ℤ pos 20_000 → to_z w64 (of_z w64 (year +ℤ pos 1)) ≡ year +ℤ pos 1
-next_stored year low high = to_z-of_z (year_fits year (pos 1) (omega (arith, ints, low), omega (arith, ints, high)) (omega (arith, ints), omega (arith, ints)))
+next_stored year low high = to_z-of_z (sum_fits year (pos 1) (omega (arith, ints, low), omega (arith, ints, high)) (omega (arith, ints), omega (arith, ints)))
 
 -- the year of a start, its first day, and the start's day in it
 pub record IsYearOfStart (day year : ℤ) : Type 0 where
@@ -308,14 +311,14 @@ year_of_start day year h is =
     }
 
 -- a day that is the n-th of a year, and the days of both years
-pub on_from_year : (f g : Filling) (year day : ℤ) (from : ℕ) → first_day_of_year year +ℤ pos from ≡ day → AllowSameOfYear f g year from
-    → AllowSame f g day (first_day_of_year (year +ℤ pos 1))
-on_from_year f g year day from is same = subst (λ d. AllowSame f g d (first_day_of_year (year +ℤ pos 1))) is (same_to_end f g year from same)
+pub on_from_year : (f g : Filling) (year day : ℤ) (from : ℕ) → first_day_of_year year +ℤ pos from ≡ day → ChooseSameOfYear f g year from
+    → ChooseSame f g day (first_day_of_year (year +ℤ pos 1))
+on_from_year f g year day from is same = subst (λ d. ChooseSame f g d (first_day_of_year (year +ℤ pos 1))) is (same_to_end f g year from same)
 
-pub none_from : (f g : Filling) (day next : ℤ) → AllowSame f g day next → AllowSameFrom f g next → AllowSameFrom f g day
+pub none_from : (f g : Filling) (day next : ℤ) → ChooseSame f g day next → ChooseSameFrom f g next → ChooseSameFrom f g day
 none_from f g day next here after d l = by_lt_z d next (λ low. here d l low) (λ high. after d high)
 
-pub some_from : (f g : Filling) (day next : ℤ) → day ≤ℤ next → AllowSame f g day next → (found : UnlikeDay) → IsFirstUnlikeDay f g next found
+pub some_from : (f g : Filling) (day next : ℤ) → day ≤ℤ next → ChooseSame f g day next → (found : UnlikeDay) → IsFirstUnlikeDay f g next found
     → IsFirstUnlikeDay f g day found
 some_from f g day next order here found is = record {
   not_before = omega (arith, ints, order, is.not_before);
@@ -327,25 +330,3 @@ some_from f g day next order here found is = record {
 -- fewer days than a year has fit
 pub days_fit : (days : ℤ) → pos 0 ≤ℤ days → days ≤ℤ pos 1_000 → FitsSigned w64 days
 days_fit days low high = search rules
-
--- ---- rules with the same parts
-
-no_weeks : (xs : List ℤ) → is_absent xs ≡ true → xs ≡ []
-no_weeks [] e = refl
-no_weeks (x ∷ xs) e = absurd (cc)
-
-module _ (a b : Rule) (start d : ℤ) (weeks_a : a.by_week_no ≡ []) (weeks_b : b.by_week_no ≡ []) (same : HaveSameParts a b) where
-  same_by : (freq : Freq) → a.freq ≡ freq → b.freq ≡ freq → allows_day (filling_of a start) d ≡ allows_day (filling_of b start) d
-  same_by Secondly e g = rw (e, g, weeks_a, weeks_b, same.months, same.year_days, same.month_days, same.days) refl
-  same_by Minutely e g = rw (e, g, weeks_a, weeks_b, same.months, same.year_days, same.month_days, same.days) refl
-  same_by Hourly e g = rw (e, g, weeks_a, weeks_b, same.months, same.year_days, same.month_days, same.days) refl
-  same_by Daily e g = rw (e, g, weeks_a, weeks_b, same.months, same.year_days, same.month_days, same.days) refl
-  same_by Weekly e g = rw (e, g, weeks_a, weeks_b, same.months, same.year_days, same.month_days, same.days) refl
-  same_by Monthly e g = rw (e, g, weeks_a, weeks_b, same.months, same.year_days, same.month_days, same.days) refl
-  same_by Yearly e g = rw (e, g, weeks_a, weeks_b, same.months, same.year_days, same.month_days, same.days) refl
-
--- both without BYWEEKNO, they allow the same days
-pub same_parts : (a b : Rule) (start d : ℤ) → HaveSameParts a b → is_absent a.by_week_no ≡ true → is_absent b.by_week_no ≡ true
-    → allows_day (filling_of a start) d ≡ allows_day (filling_of b start) d
-same_parts a b start d same weeks_a weeks_b =
-    same_by a b start d (no_weeks a.by_week_no weeks_a) (no_weeks b.by_week_no weeks_b) same a.freq refl (sym same.freq)

@@ -1,3 +1,4 @@
 pub mod Form
 pub mod Days
+pub mod Places
 pub mod Walked

@@ -1,15 +1,14 @@
 // Which series have days that the kind of each year tells.
-ghost use Rattle.std.specs.Prelude.{◌≡◌, ◌⊎◌, ◌↔◌, IsTrue};
-ghost use Rattle.rr_kinds.specs.Form.{ChoosesByKind, GoesByKinds, HasOneRuleAlone, HasOwnTime, LeavesNoUnitOut};
+ghost use Rattle.std.specs.Prelude.{◌≡◌, ◌≤◌, ◌%◌, ◌↔◌, IsTrue};
+ghost use Rattle.rr_kinds.specs.Form.{ChoosesByKind, GoesByKinds, HasOneRuleAlone, HasOwnTime, IsToldByYears, RepeatsIn400Years};
 ghost use Rattle.rr_model.specs.declared.rule.End.TheVariants.{Never};
-ghost use Rattle.rr_model.specs.declared.rule.Freq.TheVariants.{Monthly, Yearly};
 
 use rr_check::Checked;
 use rr_model::{End, Freq, Rule, Series};
 
-/// Whether a series is one endless rule of each month or each year and nothing beside it, each of whose days is chosen by the kind of
-/// its year: the interval is 1, BYWEEKNO and BYSETPOS are absent, and the time of day is that of the start. Rules of days and weeks
-/// are left out, since most repeat after one day or one week.
+/// Whether a series is one endless rule of each month, or of each n-th year of which 400 years are a whole number, and nothing beside
+/// it, each of whose days is told by the kind of its year: BYWEEKNO is absent, and the time of day is that of the start. Rules of
+/// days and weeks are left out, since most repeat after one day or one week.
 pub fn goes_by_kinds(series: &Checked) -> bool
     ensures { IsTrue result ↔ GoesByKinds series.now }
 {
@@ -31,7 +30,7 @@ fn has_one_rule_alone(series: &Series) -> bool
 fn chooses_by_kind(rule: &Rule) -> bool
     ensures { IsTrue result ↔ ChoosesByKind rule.now }
 {
-    is_endless(rule.end) && leaves_no_unit_out(rule) && has_own_time(rule)
+    is_endless(rule.end) && is_told_by_years(rule) && has_own_time(rule)
 }
 
 // Whether an end is none.
@@ -44,24 +43,29 @@ fn is_endless(end: End) -> bool
     }
 }
 
-// Whether a rule is of each month or each year, and its weeks and positions are not numbered.
-fn leaves_no_unit_out(rule: &Rule) -> bool
-    ensures { IsTrue result ↔ LeavesNoUnitOut rule.now }
+// Whether the kind of a year tells which days of its units a rule chooses.
+fn is_told_by_years(rule: &Rule) -> bool
+    ensures { IsTrue result ↔ IsToldByYears rule.now }
 {
-    is_of_months_or_years(rule.freq)
-        && rule.interval == 1
-        && rule.by_week_no.is_empty()
-        && rule.by_set_pos.is_empty()
+    repeats_in_400_years(rule.freq, rule.interval) && rule.by_week_no.is_empty()
 }
 
-// Whether the units of a frequency are months or years.
-fn is_of_months_or_years(freq: Freq) -> bool
-    ensures { IsTrue result ↔ ((freq ≡ Monthly) ⊎ (freq ≡ Yearly)) }
+// Whether units are each month, or each n-th year of which 400 years are a whole number.
+fn repeats_in_400_years(freq: Freq, interval: u32) -> bool
+    ensures { IsTrue result ↔ RepeatsIn400Years freq interval }
 {
     match freq {
-        Freq::Monthly | Freq::Yearly => true,
+        Freq::Monthly => interval == 1,
+        Freq::Yearly => divides_400(interval),
         _ => false,
     }
+}
+
+// Whether 400 is a whole number of times n, which is not 0.
+fn divides_400(n: u32) -> bool
+    ensures { IsTrue result ↔ ((1 ≤ n) × (400 % n ≡ 0)) }
+{
+    n != 0 && 400 % n == 0
 }
 
 // Whether the time of day of a rule is that of its start.

@@ -4,6 +4,7 @@
 mod form;
 mod laws;
 mod masks;
+mod places;
 mod same;
 mod verdict;
 mod years;

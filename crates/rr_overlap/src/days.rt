@@ -1,7 +1,7 @@
 // A walk over the days of two sequences.
-ghost use Rattle.std.specs.Prelude.{◌≡◌, ◌≤◌, IsTrue, IfSome, IfNone, None, pos, neg_ℤ, ◌+ℤ◌, ◌*ℤ◌, ◌≤ℤ◌};
+ghost use Rattle.std.specs.Prelude.{◌≡◌, ◌≤◌, ◌<◌, ℕ, length, get_or, IsTrue, IfSome, IfNone, None, pos, neg_ℤ, ◌+ℤ◌, ◌*ℤ◌, ◌≤ℤ◌};
 ghost use Rattle.rr_model.specs.Sets.Sketch.{IsNearDay, times_on};
-ghost use Rattle.rr_word.specs.Stretches.{IsNumberOn};
+ghost use Rattle.rr_word.specs.Stretches.{AreFree};
 ghost use Rattle.rr_overlap.specs.Apart.{IsLastBefore, IsNear, IsNearMidnight, IsNearSecond};
 ghost use Rattle.rr_overlap.specs.Days.{AreApartUpTo, IsDayEnd, IsFirstMeeting, IsQuietDay, IsWalkedTo, midnight};
 ghost use Rattle.rr_overlap.specs.Pairs.{AreQuiet, IsKnown};
@@ -125,8 +125,9 @@ fn walk_day<A: DaySeq, B: DaySeq>(
 
 /// The first second of the `days` days from a day on in which occurrences of both run; None if there is none.
 ///
-/// Days are numbered from 1970-01-01. It reads each day once. The seconds of a day are walked if the pair of its time sets is not one of those that were
-/// remembered; otherwise its first and last seconds are enough. It takes no memory.
+/// Days are numbered from 1970-01-01. Days in a row on which nothing begins are passed over by their numbers. Each other day is read
+/// once: its seconds are walked if the pair of its time sets is not one of those that were remembered; otherwise its first and last
+/// seconds are enough. It takes no memory.
 pub fn first_meeting<A: DaySeq, B: DaySeq>(
     a: &A,
     b: &B,
@@ -150,11 +151,47 @@ pub fn first_meeting<A: DaySeq, B: DaySeq>(
         first: None,
         second: None,
     };
-    for k in 0..days {
-        match walk_day(a, b, durations, from + k as i64, begun, &mut pairs) {
+    let mut k = 0;
+    while k < days {
+        let day = from + k as i64;
+        match walk_day(a, b, durations, day, begun, &mut pairs) {
             DayEnd::Meets(meeting) => return Some(meeting),
             DayEnd::Clear(last) => begun = last,
         }
+        k += 1;
+        k += free_after(a, b, day).min(days - k);
     }
     None
+}
+
+// For how many days in a row after a day it is known at once that nothing of either sequence begins on them.
+fn free_after<A: DaySeq, B: DaySeq>(a: &A, b: &B, day: i64) -> u64
+    requires low { neg_ℤ (pos 1_100_000_000) ≤ℤ day }
+    requires high { day ≤ℤ pos 1_100_000_000 }
+    ensures first { AreFree (A.sketch a.now) (day +ℤ pos 1) result }
+    ensures second { AreFree (B.sketch b.now) (day +ℤ pos 1) result }
+{
+    let of_a = a.stretch(day).rest;
+    let of_b = b.stretch(day).rest;
+    let (Some(number_a), Some(number_b)) = (of_a.first(), of_b.first()) else {
+        return 0;
+    };
+    if !a.times(*number_a).is_empty() || !b.times(*number_b).is_empty() {
+        return 0;
+    }
+    count_pairs(of_a, of_b, *number_a, *number_b) as u64
+}
+
+// How many numbers in a row, from the first ones on, are this one in the first list and this other in the second.
+fn count_pairs(xs: &[u32], ys: &[u32], x: u32, y: u32) -> usize
+    ensures first { result ≤ length xs.now }
+    ensures second { result ≤ length ys.now }
+    ensures pairs { (k : ℕ) → k < result → (get_or xs.now k 0 ≡ x) × (get_or ys.now k 0 ≡ y) }
+{
+    let most = xs.len().min(ys.len());
+    let mut count = 0;
+    while count < most && xs[count] == x && ys[count] == y {
+        count += 1;
+    }
+    count
 }

@@ -5,7 +5,7 @@ use Rattle.rr_model.specs.declared.kind.Kind.TheVariants.{Days}
 use Rattle.rr_model.proofs.StartLemmas.{IsDayWithin-start}
 use Rattle.rr_expand.specs.Years.{Filling, filling_of}
 use Rattle.rr_kinds.proofs.OptionLemmas.{if_none_map, if_some_map}
-use Rattle.rr_kinds.proofs.YearLemmas.{IsYearOfStart, days_fit, first_of_days, near_year, none_from, on_from_year, same_parts, some_from, year_bounds, year_of_start}
+use Rattle.rr_kinds.proofs.YearLemmas.{IsYearOfStart, days_fit, first_of_days, near_year, none_from, on_from_year, some_from, year_bounds, year_of_start}
 use Rattle.rr_kinds.proofs.years.first_unlike_day.Goals.{After-new_year-first}
 use Rattle.rr_kinds.proofs.years.first_unlike_day.Goals as goal
 
@@ -15,14 +15,19 @@ date_of-year-requires c = record { near = rw (to_z-of_z c.ranges.start_day) (IsD
 pub unlike_in_year-requires-clause-start : goal.unlike_in_year-requires-clause-start
 unlike_in_year-requires-clause-start c = rw (to_z-of_z c.ranges.start_day) (IsDayWithin-start 1000 Days c.args.start_day c.requires.start)
 
+pub unlike_in_year-requires-clause-start_year : goal.unlike_in_year-requires-clause-start_year
+unlike_in_year-requires-clause-start_year c =
+    let y = year_of_start c.args.start_day c.date_of-year.result.year c.requires.start (c.date_of-year.ensures.year ∙ ap year_of (to_z-of_z c.ranges.start_day)) in
+    y.stored ∙ c.date_of-year.ensures.year
+
 pub new_year-first-requires : goal.new_year-first-requires
 new_year-first-requires c =
     let y = year_of_start c.args.start_day c.date_of-year.result.year c.requires.start (c.date_of-year.ensures.year ∙ ap year_of (to_z-of_z c.ranges.start_day)) in
     rw y.stored (near_year 1000 c.date_of-year.result.year (omega (arith, ints, y.low)) (omega (arith, ints, y.high)))
 
-pub returns-then-have_same_parts : goal.returns-then-have_same_parts
-returns-then-have_same_parts c = record {
-  none = λ d l. same_parts c.args.a.now c.args.b.now c.args.start_day d (c.have_same_parts.ensures c.if-have_same_parts.true) c.requires.first c.requires.second;
+pub returns-then-are_same_by_parts : goal.returns-then-are_same_by_parts
+returns-then-are_same_by_parts c = record {
+  none = λ d l. c.are_same_by_parts.ensures c.if-are_same_by_parts.true c.args.start_day d;
   some = tt;
 }
 
