@@ -1,7 +1,8 @@
 -- Days in a row on which nothing begins.
-use Rattle.std.proofs.Common.{◌≡◌, ℕ, ◌+◌, ◌<◌, ◌≤◌, List, [], length, get_or, ℤ, pos, nat_abs, ◌+ℤ◌, ◌-ℤ◌, ◌≤ℤ◌, ◌<ℤ◌, sym, ap, subst, ◌∙◌, arith}
+use Rattle.std.proofs.Common.{◌≡◌, ℕ, ◌+◌, ◌<◌, ◌≤◌, ◌==◌, Bool, true, List, [], ◌∷◌, length, get_or, ℤ, pos, nat_abs, ◌+ℤ◌, ◌-ℤ◌, ◌≤ℤ◌, ◌<ℤ◌, refl, sym, ap, subst, ◌∙◌, arith}
 use Rattle.std.specs.List.{Contains}
 use Rattle.std.specs.Prelude.{Some, slice_get}
+use Rattle.std.proofs.lemmas.Bool.{eqb-true}
 use Rattle.std.proofs.lemmas.Int.{ints}
 use Rattle.rr_model.specs.Whole.{floor_div, floor_mod}
 use Rattle.rr_model.specs.Sets.Sketch.{times_on}
@@ -48,3 +49,8 @@ free_by_numbers sets s day numbers number count after empty few same k l =
     let on : slice_get sets (get_or numbers k 0) ≡ Some (times_on s ((day +ℤ pos 1) +ℤ pos k)) = after k (omega (arith, l, few)) in
     let e : Some (times_on s ((day +ℤ pos 1) +ℤ pos k)) ≡ Some [] = sym on ∙ ap (slice_get sets) (same k l) ∙ empty in
     cc
+
+-- a list that is tested to be empty
+pub nothing : (xs : List ℕ) (test : Bool) → test ≡ true → test ≡ (length xs == 0) → xs ≡ []
+nothing [] test e is = refl
+nothing (x ∷ xs) test e is = let none = eqb-true (length (x ∷ xs)) 0 (sym is ∙ e) in absurd (omega (arith, none))

@@ -173,13 +173,15 @@ fn free_after<A: DaySeq, B: DaySeq>(a: &A, b: &B, day: i64) -> u64
 {
     let of_a = a.stretch(day).rest;
     let of_b = b.stretch(day).rest;
-    let (Some(number_a), Some(number_b)) = (of_a.first(), of_b.first()) else {
-        return 0;
-    };
-    if !a.times(*number_a).is_empty() || !b.times(*number_b).is_empty() {
+    if of_a.is_empty() || of_b.is_empty() {
         return 0;
     }
-    count_pairs(of_a, of_b, *number_a, *number_b) as u64
+    let number_a = of_a[0];
+    let number_b = of_b[0];
+    if !a.times(number_a).is_empty() || !b.times(number_b).is_empty() {
+        return 0;
+    }
+    count_pairs(of_a, of_b, number_a, number_b) as u64
 }
 
 // How many numbers in a row, from the first ones on, are this one in the first list and this other in the second.
