@@ -1,13 +1,14 @@
--- The n-th of one weekday of a month, by the ordinal in BYDAY or by the place in BYSETPOS, is one day.
-use Rattle.std.proofs.Common.{◌≡◌, ℕ, ◌+◌, ◌-◌, ◌<◌, ◌≤◌, Bool, true, false, ◌&&◌, ◌||◌, ◌==◌, List, [], ◌∷◌, ℤ, pos, neg_ℤ, nat_abs, ◌+ℤ◌, ◌-ℤ◌, ◌*ℤ◌, ◌≤ℤ◌, ◌<ℤ◌}
+-- The n-th of one weekday of a month, of each or of one of the year, by the ordinal in BYDAY or by the place in BYSETPOS, is one day.
+use Rattle.std.proofs.Common.{◌≡◌, ℕ, ◌+◌, ◌-◌, ◌<◌, ◌≤◌, Bool, true, false, ◌&&◌, ◌||◌, ◌==◌, List, [], ◌∷◌, length, get_or, ℤ, pos, neg_ℤ, nat_abs, ◌+ℤ◌, ◌-ℤ◌, ◌*ℤ◌, ◌≤ℤ◌, ◌<ℤ◌}
 use Rattle.std.proofs.Common.{refl, sym, ap, ◌∙◌, inl, inr, arith}
+use Rattle.std.specs.Prelude.{IsTrue}
 use Rattle.std.specs.List.{list_any}
 use Rattle.std.specs.Ordering.{int_eq}
 use Rattle.std.proofs.Math.Bool.{and-true}
 use Rattle.std.proofs.lemmas.Bool.{and_parts, cases_eq, eq-eqb, eqb-true, ne_eqb}
 use Rattle.std.proofs.lemmas.Int.{ints}
 use Rattle.rr_model.specs.Whole.Count.{count_from}
-use Rattle.rr_model.specs.Calendar.{day_of_month, days_in_month, days_of_months, month_of, weekday_of, year_of}
+use Rattle.rr_model.specs.Calendar.{day_of_month, days_in_month, days_of_months, first_day_of_year, month_of, weekday_of, year_of}
 use Rattle.rr_model.specs.Moment.Units.{first_day_of_month, is_whole_days, month_number}
 use Rattle.rr_model.specs.Rule.Candidate.{allows, by_month_holds, day_item_holds, has_weekday_of, interval_holds, is_candidate, lists, rank_from_back, rank_from_front}
 use Rattle.rr_model.specs.Rule.Chosen.{is_chosen}
@@ -16,16 +17,17 @@ use Rattle.rr_model.specs.declared.kind.Kind.TheVariants.{Days}
 use Rattle.rr_model.specs.declared.rule.DayItem.{DayItem}
 use Rattle.rr_model.specs.declared.rule.Freq.TheVariants.{Monthly, Yearly}
 use Rattle.rr_model.specs.declared.rule.Rule.{Rule}
-use Rattle.rr_model.proofs.CalendarLemmas.{IsDate-year_of, day_number-year_of, day_number_is, days_of_months-next}
+use Rattle.rr_model.proofs.CalendarLemmas.{IsDate-year_of, day_number-year_of, day_number_is, days_of_months-next, first_day_of_year-next, year_of_is}
 use Rattle.rr_model.proofs.ChoiceLemmas.{is_chosen-plain}
-use Rattle.rr_model.proofs.CountLemmas.{count_from-same, count_from-split, from_more}
+use Rattle.rr_model.proofs.CountLemmas.{count_from-empty, count_from-same, count_from-split, from_more}
 use Rattle.rr_cal.proofs.StretchLemmas.{month_end, month_start, units_are_stretches}
 use Rattle.rr_setpos.specs.Ranks.{days_before, days_of_unit, first_of_unit, is_rank_listed, next_of_unit}
 use Rattle.rr_setpos.proofs.PositionLemmas.{chosen_no_candidate}
 use Rattle.rr_expand.specs.Years.{allows_day, filling_of}
 use Rattle.rr_kinds.specs.Days.{chooses_day}
 use Rattle.rr_kinds.specs.Form.{AreOrdinalsOf, IsToldByYears, NameSamePlaces, day_item}
-use Rattle.rr_kinds.proofs.ChosenLemmas.{by_days, candidate_is}
+use Rattle.rr_kinds.proofs.ChosenLemmas.{by_days, candidate_is, month_within, whole}
+use Rattle.rr_kinds.proofs.SameLemmas.{same_units}
 
 -- ---- tests
 
@@ -91,6 +93,9 @@ pub record IsMonthOf (d first next : ℤ) : Type 0 where
   pub ends : next ≡ first +ℤ pos (days_in_month (year_of d) (month_of d))
   pub within : (1 ≤ day_of_month d) × (day_of_month d ≤ days_in_month (year_of d) (month_of d))
   pub same : (u : ℤ) → first ≤ℤ u → u <ℤ next → month_of u ≡ month_of d
+  pub only : (u : ℤ) → year_of u ≡ year_of d → month_of u ≡ month_of d → (first ≤ℤ u) × (u <ℤ next)
+  pub not_before : first_day_of_year (year_of d) ≤ℤ first
+  pub not_after : next ≤ℤ first_day_of_year (year_of d +ℤ pos 1)
 
 month_of_day : (d : ℤ) → IsMonthOf d (first_day_of_month (month_number d)) (first_day_of_month (month_number d +ℤ pos 1))
 month_of_day d =
@@ -114,7 +119,78 @@ month_of_day d =
           let e : month_number u ≡ month_number d = (units_are_stretches Monthly 0 Days u n).1 (l, h) in
           let other = IsDate-year_of u in
           omega (arith, ints, e, date.0, date.1, other.0, other.1));
+      only = λ u year month. (
+          let e : month_number u ≡ month_number d = omega (arith, ints, year, month) in
+          (units_are_stretches Monthly 0 Days u n).0 e);
+      not_before = omega (arith, ints, start);
+      not_after = omega (arith, ints, end, month_within y m few, first_day_of_year-next y);
     }
+
+-- the days allowed before it in its unit are those before it in its month, and the days allowed in its unit those in its month
+record AreOfMonth (rule : Rule) (start d : ℤ) : Type 0 where
+  rank : days_before rule start d ≡ count_from (allows_day (filling_of rule start)) (first_day_of_month (month_number d)) (day_of_month d - 1)
+  size : days_of_unit rule start d
+      ≡ count_from (allows_day (filling_of rule start)) (first_day_of_month (month_number d)) (days_in_month (year_of d) (month_of d))
+
+module _ (rule : Rule) (start d : ℤ) where
+  abbrev allowed_on : ℤ → Bool
+  allowed_on u = allows_day (filling_of rule start) u
+
+  abbrev begin : ℤ
+  begin = first_day_of_month (month_number d)
+
+  abbrev end : ℤ
+  end = first_day_of_month (month_number d +ℤ pos 1)
+
+  abbrev before : ℕ
+  before = day_of_month d - 1
+
+  abbrev all : ℕ
+  all = days_in_month (year_of d) (month_of d)
+
+  of_months : rule.freq ≡ Monthly → AreOfMonth rule start d
+  of_months monthly =
+      let s = month_of_day d in
+      let begins : first_of_unit rule d ≡ begin = rw monthly refl in
+      let ends : next_of_unit rule d ≡ end = rw monthly refl in
+      let few : nat_abs (d -ℤ begin) ≡ before = omega (arith, ints, s.begins, s.within.0) in
+      let many : nat_abs (end -ℤ begin) ≡ all = omega (arith, ints, s.ends) in
+      record {
+        rank = ap (λ z. count_from allowed_on z (nat_abs (d -ℤ z))) begins ∙ ap (count_from allowed_on begin) few;
+        size = ap (λ z. count_from allowed_on z (nat_abs (next_of_unit rule d -ℤ z))) begins
+            ∙ ap (λ z. count_from allowed_on begin (nat_abs (z -ℤ begin))) ends ∙ ap (count_from allowed_on begin) many;
+      }
+
+  of_year : rule.freq ≡ Yearly → ((u : ℤ) → (month_of u ≡ month_of d → ⊥) → allowed_on u ≡ false) → AreOfMonth rule start d
+  of_year yearly none =
+      let s = month_of_day d in
+      let y : ℤ = year_of d in
+      let first : ℤ = first_day_of_year y in
+      let next : ℤ = first_day_of_year (y +ℤ pos 1) in
+      let p : ℕ = nat_abs (begin -ℤ first) in
+      let r : ℕ = nat_abs (next -ℤ end) in
+      let begins : first_of_unit rule d ≡ first = rw yearly refl in
+      let ends : next_of_unit rule d ≡ next = rw yearly refl in
+      let at : first +ℤ pos p ≡ begin = omega (arith, ints, s.not_before) in
+      let over : begin +ℤ pos all ≡ end = omega (arith, ints, s.ends) in
+      let few : nat_abs (d -ℤ first) ≡ p + before = omega (arith, ints, s.begins, s.within.0, s.not_before) in
+      let many : nat_abs (next -ℤ first) ≡ p + (all + r) = omega (arith, ints, s.ends, s.not_before, s.not_after) in
+      let inside : (u : ℤ) → first ≤ℤ u → u <ℤ next → year_of u ≡ y = λ u l h. year_of_is u y (record { begun = l; not_over = h }) in
+      let none_before : count_from allowed_on first p ≡ 0 = count_from-empty allowed_on first p (λ u l h. none u (λ e. (
+      let in_it = s.only u (inside u l (omega (arith, ints, h, at, s.ends, s.not_after))) e in
+      omega (arith, ints, in_it.0, h, at)))) in
+      let none_after : count_from allowed_on end r ≡ 0 = count_from-empty allowed_on end r (λ u l h. none u (λ e. (
+      let in_it = s.only u (inside u (omega (arith, ints, l, s.ends, s.not_before)) (omega (arith, ints, h, s.not_after))) e in
+      omega (arith, ints, in_it.1, l)))) in
+      let on : (n : ℕ) → count_from allowed_on (first +ℤ pos p) n ≡ count_from allowed_on begin n = λ n. ap (λ z. count_from allowed_on z n) at in
+      let behind : count_from allowed_on (begin +ℤ pos all) r ≡ 0 = ap (λ z. count_from allowed_on z r) over ∙ none_after in
+      record {
+        rank = ap (λ z. count_from allowed_on z (nat_abs (d -ℤ z))) begins ∙ ap (count_from allowed_on first) few
+            ∙ omega (arith, count_from-split allowed_on first p before, none_before, on before);
+        size = ap (λ z. count_from allowed_on z (nat_abs (next_of_unit rule d -ℤ z))) begins
+            ∙ ap (λ z. count_from allowed_on first (nat_abs (z -ℤ first))) ends ∙ ap (count_from allowed_on first) many
+            ∙ omega (arith, count_from-split allowed_on first p (all + r), none_before, on (all + r), count_from-split allowed_on begin all r, behind);
+      }
 
 -- ---- days that are allowed
 
@@ -137,6 +213,36 @@ allowed_by_ordinals rule start d freq weeks year_days month_days some =
     rw (freq, weeks, year_days, month_days, some)
     (ap (λ x. x && list_any (day_item_holds false d) rule.by_day) (three_true (by_month_holds rule d)))
 
+-- the same in a year of which one month is asked
+allowed_of_year_by_weekday : (rule : Rule) (start d : ℤ) (w : ℕ) (month : ℤ) → rule.freq ≡ Yearly → rule.by_month ≡ month ∷ [] → rule.by_week_no ≡ []
+    → rule.by_year_day ≡ [] → rule.by_month_day ≡ [] → rule.by_day ≡ day_item (pos 0) w ∷ []
+    → allows_day (filling_of rule start) d ≡ (allows (month ∷ []) (pos (month_of d)) && (w == weekday_of d))
+allowed_of_year_by_weekday rule start d w month freq months weeks year_days month_days days =
+    rw (freq, months, weeks, year_days, month_days, days)
+    (ap (λ x. x && (((w == weekday_of d) && true) || false)) (three_true (allows (month ∷ []) (pos (month_of d))))
+    ∙ ap (λ x. allows (month ∷ []) (pos (month_of d)) && x) (or-false ((w == weekday_of d) && true) ∙ and-true (w == weekday_of d)))
+
+allowed_of_year_by_ordinals : (rule : Rule) (start d : ℤ) (month : ℤ) → rule.freq ≡ Yearly → rule.by_month ≡ month ∷ [] → rule.by_week_no ≡ []
+    → rule.by_year_day ≡ [] → rule.by_month_day ≡ [] → is_absent rule.by_day ≡ false
+    → allows_day (filling_of rule start) d ≡ (allows (month ∷ []) (pos (month_of d)) && list_any (day_item_holds false d) rule.by_day)
+allowed_of_year_by_ordinals rule start d month freq months weeks year_days month_days some =
+    rw (freq, months, weeks, year_days, month_days, some)
+    (ap (λ x. x && list_any (day_item_holds false d) rule.by_day) (three_true (allows (month ∷ []) (pos (month_of d)))))
+
+one_number : (xs : List ℤ) → length xs ≡ 1 → xs ≡ get_or xs 0 (pos 0) ∷ []
+one_number [] one = absurd (omega (arith, one))
+one_number (x ∷ []) one = refl
+one_number (x ∷ y ∷ ys) one = absurd (omega (arith, one))
+
+asked : (m : ℤ) (k : ℕ) → IsTrue (allows (m ∷ []) (pos k)) → m ≡ pos k
+asked m k t = grind (arith, ints)
+
+-- a list of one month asks for one
+one_asked : (months : List ℤ) (k j : ℕ) → length months ≡ 1 → IsTrue (allows months (pos k)) → IsTrue (allows months (pos j)) → k ≡ j
+one_asked [] k j one e g = absurd (omega (arith, one))
+one_asked (m ∷ []) k j one e g = omega (arith, ints, asked m k e, asked m j g)
+one_asked (m ∷ n ∷ ms) k j one e g = absurd (omega (arith, one))
+
 some_items : (w : ℕ) (items : List DayItem) (places : List ℤ) → AreOrdinalsOf w items places → is_absent places ≡ false → is_absent items ≡ false
 some_items w [] [] are some = some
 some_items w [] (p ∷ ps) are some = absurd are
@@ -150,22 +256,39 @@ module _ (a b : Rule) (start : ℤ) (is : NameSamePlaces a b) (told_a : IsToldBy
   w = is.one.weekday
 
   coarse_a : is_whole_days a.freq ≡ true
-  coarse_a = rw is.first_freq refl
+  coarse_a = whole a.freq a.interval told_a.units
 
   coarse_b : is_whole_days b.freq ≡ true
-  coarse_b = rw is.second_freq refl
+  coarse_b = whole b.freq b.interval told_b.units
+
+  abbrev month : ℤ
+  month = get_or b.by_month 0 (pos 0)
 
   allowed_b : (d : ℤ) → allows_day (filling_of b start) d ≡ (by_month_holds b d && (w == weekday_of d))
-  allowed_b d = allowed_by_weekday b start d w is.second_freq (empty b.by_week_no told_b.weeks) (empty b.by_year_day is.second_year_days)
-      (empty b.by_month_day is.second_month_days) is.one.one
+  allowed_b d =
+      let weeks = empty b.by_week_no told_b.weeks in
+      let year_days = empty b.by_year_day is.second_year_days in
+      let month_days = empty b.by_month_day is.second_month_days in
+      elim is.one_month [
+        | inl e ↦ allowed_by_weekday b start d w e weeks year_days month_days is.one.one
+        | inr e ↦ allowed_of_year_by_weekday b start d w month e.0 (one_number b.by_month e.1) weeks year_days month_days is.one.one
+            ∙ ap (λ months. allows months (pos (month_of d)) && (w == weekday_of d)) (sym (one_number b.by_month e.1))
+      ]
 
   allowed_a : (d : ℤ) → allows_day (filling_of a start) d ≡ (by_month_holds b d && list_any (day_item_holds false d) a.by_day)
   allowed_a d =
-      allowed_by_ordinals a start d is.first_freq (empty a.by_week_no told_a.weeks) (empty a.by_year_day is.first_year_days)
-      (empty a.by_month_day is.first_month_days) (some_items w a.by_day b.by_set_pos is.one.ordinals is.some)
-      ∙ ap (λ months. allows months (pos (month_of d)) && list_any (day_item_holds false d) a.by_day) is.months
+      let weeks = empty a.by_week_no told_a.weeks in
+      let year_days = empty a.by_year_day is.first_year_days in
+      let month_days = empty a.by_month_day is.first_month_days in
+      let some = some_items w a.by_day b.by_set_pos is.one.ordinals is.some in
+      elim is.one_month [
+        | inl e ↦ allowed_by_ordinals a start d (is.freq ∙ e) weeks year_days month_days some
+            ∙ ap (λ months. allows months (pos (month_of d)) && list_any (day_item_holds false d) a.by_day) is.months
+        | inr e ↦ allowed_of_year_by_ordinals a start d month (is.freq ∙ e.0) (is.months ∙ one_number b.by_month e.1) weeks year_days month_days some
+            ∙ ap (λ months. allows months (pos (month_of d)) && list_any (day_item_holds false d) a.by_day) (sym (one_number b.by_month e.1))
+      ]
 
-  module _ (d : ℤ) (month : by_month_holds b d ≡ true) (own : w ≡ weekday_of d) where
+  module _ (d : ℤ) (asks : by_month_holds b d ≡ true) (own : w ≡ weekday_of d) where
     abbrev first : ℤ
     first = first_day_of_month (month_number d)
 
@@ -184,33 +307,34 @@ module _ (a b : Rule) (start : ℤ) (is : NameSamePlaces a b) (told_a : IsToldBy
     -- in the month it is the weekday that is asked
     same_weekday : (u : ℤ) → first ≤ℤ u → u <ℤ next → allows_day (filling_of b start) u ≡ has_weekday_of d u
     same_weekday u l h =
-        let here : by_month_holds b u ≡ true = rw (stretch.same u l h) month in
+        let here : by_month_holds b u ≡ true = rw (stretch.same u l h) asks in
         allowed_b u ∙ rw here (ap (λ x. x == weekday_of u) own ∙ nat_eq_sym (weekday_of d) (weekday_of u))
 
-    first_is : first_of_unit b d ≡ first
-    first_is = rw is.second_freq refl
+    -- in a year no day of another month is allowed
+    of_no_other : length b.by_month ≡ 1 → (u : ℤ) → (month_of u ≡ month_of d → ⊥) → allows_day (filling_of b start) u ≡ false
+    of_no_other one u other = elim (by_month_holds b u) as (λ x. by_month_holds b u ≡ x → allows_day (filling_of b start) u ≡ false) [
+      | true ↦ λ e. absurd (other (one_asked b.by_month (month_of u) (month_of d) one e asks))
+      | false ↦ λ e. allowed_b u ∙ rw e refl
+    ] refl
 
-    next_is : next_of_unit b d ≡ next
-    next_is = rw is.second_freq refl
+    of_month : AreOfMonth b start d
+    of_month = elim is.one_month [
+      | inl e ↦ of_months b start d e
+      | inr e ↦ of_year b start d e.0 (of_no_other e.1)
+    ]
 
     rank_is : days_before b start d ≡ count_from (has_weekday_of d) first (k - 1)
     rank_is =
         let s = stretch in
-        let few : nat_abs (d -ℤ first) ≡ k - 1 = omega (arith, ints, s.begins, s.within.0) in
-        ap (λ z. count_from (allows_day (filling_of b start)) z (nat_abs (d -ℤ z))) first_is
-        ∙ ap (count_from (allows_day (filling_of b start)) first) few
+        of_month.rank
         ∙ count_from-same (allows_day (filling_of b start)) (has_weekday_of d) first (k - 1)
         (λ u l m. same_weekday u l (omega (arith, ints, m, s.ends, s.within.0, s.within.1)))
 
     size_is : days_of_unit b start d ≡ count_from (has_weekday_of d) first many
     size_is =
         let s = stretch in
-        let all : nat_abs (next -ℤ first) ≡ many = omega (arith, ints, s.ends) in
-        ap (λ z. count_from (allows_day (filling_of b start)) z (nat_abs (next_of_unit b d -ℤ z))) first_is
-        ∙ ap (λ z. count_from (allows_day (filling_of b start)) first (nat_abs (z -ℤ first))) next_is
-        ∙ ap (count_from (allows_day (filling_of b start)) first) all
-        ∙ count_from-same (allows_day (filling_of b start)) (has_weekday_of d) first many
-        (λ u l m. same_weekday u l (omega (arith, ints, m, s.ends)))
+        of_month.size
+        ∙ count_from-same (allows_day (filling_of b start)) (has_weekday_of d) first many (λ u l m. same_weekday u l (omega (arith, ints, m, s.ends)))
 
     front_is : rank_from_front d k ≡ days_before b start d + 1
     front_is =
@@ -248,13 +372,7 @@ module _ (a b : Rule) (start : ℤ) (is : NameSamePlaces a b) (told_a : IsToldBy
         ∙ ap (λ x. x || lists b.by_set_pos (pos (r + 1)) || lists b.by_set_pos (neg_ℤ (pos (n - r)))) (sym is.some)
 
   fits_is : (d : ℤ) → interval_holds a Days start d ≡ interval_holds b Days start d
-  fits_is d = rw (is.first_freq, is.second_freq, each a told_a is.first_freq, each b told_b is.second_freq) refl
-    where
-      each : (r : Rule) → IsToldByYears r → r.freq ≡ Monthly → r.interval ≡ 1
-      each r told monthly = elim told.units [
-        | inl e ↦ e.1
-        | inr e ↦ absurd (let wrong : Monthly ≡ Yearly = sym monthly ∙ e.0 in cc)
-      ]
+  fits_is d = (same_units a b start d told_a is.freq is.interval).fits
 
   plain_a : (d : ℤ) → chooses_day (filling_of a start) d ≡ (interval_holds b Days start d && (by_month_holds b d && list_any (day_item_holds false d) a.by_day))
   plain_a d =

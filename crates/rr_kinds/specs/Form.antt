@@ -88,12 +88,17 @@ pub record ArePlacesOfOne (items days : List DayItem) (places : List ℤ) : Type
   pub one : days ≡ day_item (pos 0) weekday ∷ []
   pub ordinals : AreOrdinalsOf weekday items places
 
--- two rules of each month name the n-th of one weekday: the first by ordinals in BYDAY, the second by the weekday in
--- BYDAY and places in BYSETPOS
+-- each unit has one month: it is a month, or a year of which one month is asked
+abbrev pub HasOneMonth : Freq → List ℤ → Type 0
+HasOneMonth freq months = (freq ≡ Monthly) ⊎ ((freq ≡ Yearly) × (length months ≡ 1))
+
+-- two rules name the n-th of one weekday of each month, or of one month of the year: the first by ordinals in BYDAY, the second by the
+-- weekday in BYDAY and places in BYSETPOS
 pub record NameSamePlaces (a b : Rule) : Type 0 where
-  pub first_freq : a.freq ≡ Monthly
-  pub second_freq : b.freq ≡ Monthly
+  pub freq : a.freq ≡ b.freq
+  pub interval : a.interval ≡ b.interval
   pub months : a.by_month ≡ b.by_month
+  pub one_month : HasOneMonth b.freq b.by_month
   pub first_year_days : is_absent a.by_year_day ≡ true
   pub second_year_days : is_absent b.by_year_day ≡ true
   pub first_month_days : is_absent a.by_month_day ≡ true

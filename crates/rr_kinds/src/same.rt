@@ -1,15 +1,14 @@
 // Whether two rules choose the same days, as their parts tell.
-ghost use Rattle.std.specs.Prelude.{◌≡◌, ◌↔◌, IsTrue, ℤ, false, pos};
+ghost use Rattle.std.specs.Prelude.{◌≡◌, ◌↔◌, IsTrue, ℤ, false, length, pos};
 ghost use Rattle.std.specs.Ordering.{int_eq};
 ghost use Rattle.rr_expand.specs.Years.{filling_of};
 ghost use Rattle.rr_kinds.specs.Days.{chooses_day};
-ghost use Rattle.rr_kinds.specs.Form.{ArePlacesOfOne, HaveSameParts, IsToldByYears, NameSamePlaces};
-ghost use Rattle.rr_model.specs.declared.rule.Freq.TheVariants.{Monthly};
+ghost use Rattle.rr_kinds.specs.Form.{ArePlacesOfOne, HasOneMonth, HaveSameParts, IsToldByYears, NameSamePlaces};
 
 use rr_model::{DayItem, DayItems, Freq, Numbers, Rule};
 
 /// Whether the parts of two rules tell at once that both choose the same days, whatever day they start on: they are the same, or name
-/// the n-th of one weekday of each month, one by ordinals in BYDAY and the other by places in BYSETPOS.
+/// the n-th of one weekday of each month or of one month of the year, one by ordinals in BYDAY and the other by places in BYSETPOS.
 pub(crate) fn are_same_by_parts(a: &Rule, b: &Rule) -> bool
     requires first { IsToldByYears a.now }
     requires second { IsToldByYears b.now }
@@ -66,14 +65,14 @@ fn are_same_items(a: &[DayItem], b: &[DayItem]) -> bool
     true
 }
 
-// Whether two rules of months name the n-th of one weekday, the first by ordinals in BYDAY and the second by places in BYSETPOS.
+// Whether two rules name the n-th of one weekday of each month or of one month of the year, the first by ordinals in BYDAY and the
+// second by places in BYSETPOS.
 fn name_same_places(a: &Rule, b: &Rule) -> bool
-    requires first { IsToldByYears a.now }
-    requires second { IsToldByYears b.now }
     ensures { IsTrue result → NameSamePlaces a.now b.now }
 {
-    is_monthly(a.freq)
-        && is_monthly(b.freq)
+    a.freq == b.freq
+        && a.interval == b.interval
+        && has_one_month(b)
         && a.by_set_pos.is_empty()
         && !b.by_set_pos.is_empty()
         && a.by_year_day.is_empty()
@@ -84,13 +83,22 @@ fn name_same_places(a: &Rule, b: &Rule) -> bool
         && are_places_of_one(&a.by_day, &b.by_day, &b.by_set_pos)
 }
 
-fn is_monthly(freq: Freq) -> bool
-    ensures { IsTrue result ↔ freq ≡ Monthly }
+// Whether each unit of a rule has one month.
+fn has_one_month(rule: &Rule) -> bool
+    ensures { IsTrue result → HasOneMonth rule.now.freq rule.now.by_month }
 {
-    match freq {
+    match rule.freq {
         Freq::Monthly => true,
+        Freq::Yearly => is_one(rule.by_month.as_slice()),
         _ => false,
     }
+}
+
+// Whether a list has one number.
+fn is_one(numbers: &[i16]) -> bool
+    ensures { IsTrue result ↔ length numbers.now ≡ 1 }
+{
+    numbers.len() == 1
 }
 
 // Whether `days` is one weekday without an ordinal, and `items` are the same with the places as ordinals.

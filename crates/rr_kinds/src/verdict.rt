@@ -14,7 +14,8 @@ use rr_model::{Kind, Series, Side, Verdict, day_part, moment_at, second_part};
 /// Whether two series have equal occurrences for all years to come; else the first that exactly one of them has. None exactly
 /// if one of them does not go by kinds of years, as `goes_by_kinds` says.
 ///
-/// A no names an occurrence on a day within `MAX_DAY`. It takes no memory, and makes a mask of at most one year of each of the 14 kinds, and of the start's, for either series.
+/// A no names an occurrence on a day within `MAX_DAY`. It takes no memory, and makes at most 29 masks for either series: of the
+/// start's year, and of a year of each of the 14 kinds, once if the interval of the other series fits it and once if it does not.
 pub fn equal_by_kinds(a: &Checked, b: &Checked) -> Option<Verdict>
     ensures some { IfSome result (IsEqualVerdict (Occurs a.now) (Occurs b.now)) }
     ensures day { IfSome result NamesNearDay }
