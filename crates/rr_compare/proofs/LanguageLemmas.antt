@@ -12,17 +12,12 @@ unfolding line_kind
 empty_says true lines = refl
 empty_says false lines = refl
 
-empty_lines : (after : List ℕ) → physical_lines (10 ∷ after) ≡ [] ∷ physical_lines after
-unfolding physical_lines
-empty_lines after = refl
-
 -- empty lines say nothing
 pub empty_passed : (begun : Bool) (number : ℕ) (text rest : List ℕ) (at : ℕ) → AreEmpty number text rest at
     → version_from begun (physical_lines text) ≡ version_from begun (physical_lines rest)
 empty_passed begun number text rest at AreEmpty.none = refl
 empty_passed begun number text _ _ (AreEmpty.more rest after at empty one) =
-    empty_passed begun number text rest at empty ∙ ap (λ (r : List ℕ). version_from begun (physical_lines r)) one.is
-    ∙ ap (version_from begun) (empty_lines after) ∙ empty_says begun (physical_lines after)
+    empty_passed begun number text rest at empty ∙ ap (version_from begun) one.cut.lines ∙ empty_says begun (physical_lines after)
 
 module _ (text rest : List ℕ) (begun : Bool) (so_far : is_version_one text ≡ version_from begun (physical_lines rest)) where
   -- one line says it

@@ -4,7 +4,8 @@ use Rattle.std.specs.List.{list_any}
 use Rattle.rr_model.specs.Text.Lines.{physical_lines}
 use Rattle.rr_model.specs.Text.UsedLines.{is_named}
 use Rattle.rr_model.specs.declared.line.Line.{Line}
-use Rattle.rr_events.specs.Cutting.{IsCut, lines_at}
+use Rattle.rr_events.specs.Cutting.{AreEmpty, IsCut, IsEmptyLine, lines_at}
+use Rattle.rr_events.proofs.EmptyLemmas.{empty-first, empty_line}
 use Rattle.rr_events.proofs.LineLemmas.{line-first}
 use Rattle.rr_events.specs.Begin.{has_begin}
 
@@ -35,6 +36,16 @@ IsUnread-next text rest after number next line unread cut e = record {
   same = read_by text rest after number next line unread cut ∙ ap (λ b. b || list_any begins (lines_at next after)) e;
   few = omega (arith, unread.few, cut.one.few);
 }
+
+-- an empty line has no name
+passed-one : (text rest after : List ℕ) (at : ℕ) → IsEmptyLine rest after → IsUnread text rest at → IsUnread text after (at + 1)
+passed-one text rest after at one unread = IsUnread-next text rest after at (at + 1) (empty_line at) unread (empty-first at rest after one) refl
+
+pub passed-over : (text : List ℕ) (number : ℕ) (rest after : List ℕ) (next : ℕ) → AreEmpty number rest after next → IsUnread text rest number
+    → IsUnread text after next
+passed-over text number rest _ _ AreEmpty.none unread = unread
+passed-over text number rest _ _ (AreEmpty.more left after at empty one) unread =
+    passed-one text left after at one (passed-over text number rest left at empty unread)
 
 pub not_begun : (text rest : List ℕ) (number : ℕ) → IsUnread text rest number → rest ≡ [] → false ≡ has_begin text
 unfolding physical_lines

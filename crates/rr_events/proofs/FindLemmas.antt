@@ -7,7 +7,6 @@ use Rattle.std.proofs.lemmas.List.Elements.{All-push}
 use Rattle.rr_model.specs.Rule.Validity.{is_absent}
 use Rattle.rr_model.specs.Text.Lines.{begins_blank, physical_lines, with_physical_lines}
 use Rattle.rr_model.specs.Text.RuleValues.{◌>>=◌}
-use Rattle.rr_model.specs.Text.UsedLines.{line_kind}
 use Rattle.rr_model.specs.declared.line.Line.{Line}
 use Rattle.rr_model.specs.declared.refusal.Fault.{Fault}
 use Rattle.rr_model.specs.declared.refusal.Fault.TheVariants.{Refused, NoMemory}
@@ -20,7 +19,7 @@ use Rattle.rr_ical.specs.Components.{is_within_event, open_after}
 use Rattle.rr_events.specs.Finding.{before, begun_after, lines_in, IsBefore, IsFound, IsFoundAfter, IsNext, IsPlaced, IsStep}
 use Rattle.rr_events.specs.declared.find.Finder.{Finder}
 use Rattle.rr_events.specs.declared.find.Piece.{Piece}
-use Rattle.rr_events.proofs.EmptyLemmas.{empty-first, empty_line}
+use Rattle.rr_events.proofs.EmptyLemmas.{empty-first, empty-open, empty_line}
 use Rattle.rr_events.proofs.PartLemmas.{joined, part-before, text-lines}
 use Rattle.rr_events.proofs.LineLemmas.{line-first, lines-parted}
 
@@ -290,10 +289,6 @@ passed-one text rest after names begun found number next line cut same is =
               ∙ ap (after_found (map lines_in found)) (turn (length (physical_lines text)) names names so line (lines_at next after) same ∙ ap (λ (b : Bool). turned b b (length (physical_lines text)) names so line (lines_at next after)) open_one.0
               ∙ ap (λ (ls : List Line). events_from (length (physical_lines text)) names ls (lines_at next after)) (sym new.lines)),
         )
-
-empty-open : (names : List (List ℕ)) (number : ℕ) → open_after names (empty_line number) ≡ Ok names
-unfolding open_after line_kind
-empty-open names number = refl
 
 pub passed-over : (text : List ℕ) (names : List (List ℕ)) (begun : Option Piece) (found : List Piece) (number : ℕ) (rest after : List ℕ) (next : ℕ)
     → AreEmpty number rest after next → IsSoFar text names begun found rest number → IsSoFar text names begun found after next

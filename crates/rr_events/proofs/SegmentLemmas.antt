@@ -13,7 +13,7 @@ use Rattle.rr_model.specs.declared.refusal.Fault.TheVariants.{Refused, NoMemory}
 use Rattle.rr_model.specs.declared.refusal.Refusal.{Refusal}
 use Rattle.rr_model.specs.declared.refusal.Refusal.TheVariants.{BadLine}
 use Rattle.rr_text.specs.Physical.{EndsWithFeed}
-use Rattle.rr_events.specs.Cutting.{raw_texts, IsCut}
+use Rattle.rr_events.specs.Cutting.{raw_texts, AreEmpty, IsCut}
 use Rattle.rr_ical.specs.Components.{open_after}
 use Rattle.rr_events.specs.Finding.{before}
 use Rattle.rr_events.specs.RawLines.{first_line, lines_of, raw_line, raw_lines_at, raw_lines_from, RawLine}
@@ -23,6 +23,7 @@ use Rattle.rr_events.specs.declared.find.Piece.{Piece}
 use Rattle.rr_ical.specs.declared.open_names.Sought.{Sought}
 use Rattle.rr_events.specs.declared.segment.Cutter.{Cutter}
 use Rattle.rr_events.specs.declared.segment.Segment.{Segment}
+use Rattle.rr_events.proofs.EmptyLemmas.{empty-first, empty-open, empty_line}
 use Rattle.rr_events.proofs.PartLemmas.{part-before, part-lines, text-lines}
 use Rattle.rr_events.proofs.RawLemmas.{raws-parted}
 
@@ -376,6 +377,65 @@ pub one_more : (sought : Sought) (piece rest after : Piece) (line : Line) (old n
     → IsTaken sought old new rest line after → IsSoFar sought piece old.names old.begun old.found.items rest
     → IsSoFar sought piece new.names new.begun new.found.items after
 one_more sought piece rest after line old new cut taken is = goes_on sought piece rest after old.names new.names line cut taken.names old new refl refl is taken.cut
+
+-- ---- empty lines
+
+-- a piece of these bytes
+abbrev at_bytes : ℕ → List ℕ → Piece
+at_bytes number text = record { text = record { ref_ptr = (0, 0); now = text }; first = number }
+
+-- only the bytes of the rest and its number are of account
+of-bytes : (sought : Sought) (piece : Piece) (names : List (List ℕ)) (begun : Piece) (found : List Segment) (rest : Piece)
+    → IsSoFar sought piece names begun found (at_bytes rest.first rest.text.now) → IsSoFar sought piece names begun found rest
+unfolding so_far
+of-bytes sought piece names begun found rest is =
+    let one = is.open_one in
+    record {
+      sections = is.sections;
+      open_one = record { part = one.part; joined = one.joined; apart = one.apart; counted = one.counted; raws = one.raws; placed = one.placed };
+      placed = is.placed;
+      last = is.last;
+      few = is.few;
+    }
+
+by-bytes : (sought : Sought) (piece : Piece) (names : List (List ℕ)) (begun : Piece) (found : List Segment) (rest : Piece)
+    → IsSoFar sought piece names begun found rest → IsSoFar sought piece names begun found (at_bytes rest.first rest.text.now)
+unfolding so_far
+by-bytes sought piece names begun found rest is =
+    let one = is.open_one in
+    record {
+      sections = is.sections;
+      open_one = record { part = one.part; joined = one.joined; apart = one.apart; counted = one.counted; raws = one.raws; placed = one.placed };
+      placed = is.placed;
+      last = is.last;
+      few = is.few;
+    }
+
+-- an empty line begins and ends nothing
+none-cut : (within : Bool) (cutter : Cutter) (here after : Piece) → IsCutAfter within within cutter cutter here after
+none-cut true cutter here after = (refl, refl)
+none-cut false cutter here after = (refl, refl)
+
+passed : (sought : Sought) (piece : Piece) (cutter : Cutter) (number : ℕ) (text after : List ℕ) (next : ℕ) → AreEmpty number text after next
+    → IsSoFar sought piece cutter.names cutter.begun cutter.found.items (at_bytes number text)
+    → IsSoFar sought piece cutter.names cutter.begun cutter.found.items (at_bytes next after)
+passed sought piece cutter number text _ _ AreEmpty.none is = is
+passed sought piece cutter number text _ _ (AreEmpty.more left after at empty one) is =
+    let here = at_bytes at left in
+    let next = at_bytes (at + 1) after in
+    one_more sought piece here next (empty_line at) cutter cutter (empty-first at left after one)
+    (record { names = empty-open cutter.names at; cut = none-cut (is_within sought cutter.names) cutter here next })
+    (passed sought piece cutter number text left at empty is)
+
+pub passed-over : (sought : Sought) (piece : Piece) (cutter : Cutter) (rest after : Piece) → AreEmpty rest.first rest.text.now after.text.now after.first
+    → IsSoFar sought piece cutter.names cutter.begun cutter.found.items rest
+    → IsSoFar sought piece cutter.names cutter.begun cutter.found.items after
+passed-over sought piece cutter rest after empty is =
+    of-bytes sought piece cutter.names cutter.begun cutter.found.items after
+    (passed sought piece cutter rest.first rest.text.now after.text.now after.first empty
+    (by-bytes sought piece cutter.names cutter.begun cutter.found.items rest is))
+
+-- ---- lengths
 
 -- the rest is a part of what is begun
 pub begun-longer : (piece begun rest : Piece) → IsOpen piece begun rest → length rest.text.now ≤ length begun.text.now

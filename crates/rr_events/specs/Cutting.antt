@@ -45,9 +45,9 @@ pub record IsCut (number : ℕ) (text : List ℕ) (line : Line) (after : List �
 
 -- ---- empty lines
 
--- a text begins with an empty line, which ends with a line feed alone and which no line continues
+-- the first physical line of a text is empty, and no line continues it
 pub record IsEmptyLine (text after : List ℕ) : Type 0 where
-  pub is : text ≡ 10 ∷ after
+  pub cut : IsCutAt text [] after
   pub starts : begins_blank after ≡ false
 
 -- a text begins with empty lines, from a number on, up to the rest, which has another number

@@ -2,7 +2,7 @@
 ghost use Rattle.std.specs.Prelude.{◌≡◌, ◌<◌, ◌^◌, length, IfOk};
 ghost use Rattle.rr_events.specs.Begin.{has_begin};
 
-use crate::cut::cut_line;
+use crate::cut::{Rest, after_empty_lines, cut_line};
 use rr_ical::is_named;
 use rr_model::NoMemory;
 use std::alloc::Global;
@@ -12,14 +12,12 @@ pub fn has_begin(alloc: Global, text: &[u8]) -> Result<bool, NoMemory>
     requires { length text.now < 2 ^ 62 }
     ensures { IfOk result (λ b. b ≡ has_begin text.now) }
 {
-    let mut rest = text;
-    let mut number = 1u64;
-    while let Some(cut) = cut_line(alloc, rest, number)? {
+    let mut rest = Rest { text, number: 1 };
+    while let Some(cut) = cut_line(alloc, rest.text, rest.number)? {
         if is_named(cut.line.text.as_slice(), b"BEGIN") {
             return Ok(true);
         }
-        number = cut.next;
-        rest = cut.after;
+        rest = after_empty_lines(cut.after, cut.next);
     }
     Ok(false)
 }

@@ -84,7 +84,7 @@ impl<'a> Finder<'a> {
 /// `BadLine` comes for a BEGIN or END without a value, for an END that does not close the innermost open component, and,
 /// with the number of the text's last line, if the text ends within a component. Other components are passed over, and
 /// an event within one is an event; one within an event belongs to the outer one. It keeps 24 bytes for each event, and passes
-/// over empty lines in a nanosecond or two each.
+/// over empty lines at once.
 pub fn find_events<'a>(alloc: Global, text: &'a [u8]) -> Result<Vec<Piece<'a>>, Fault>
     requires { length text.now < 2 ^ 62 }
     ensures found { IsFound text.now result }

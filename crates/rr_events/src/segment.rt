@@ -3,7 +3,7 @@ ghost use Rattle.std.specs.Prelude.{◌≡◌, ◌+◌, ◌<◌, ◌≤◌, ◌^
 ghost use Rattle.rr_events.specs.RawLines.{lines_of, raw_lines_at};
 ghost use Rattle.rr_events.specs.Segments.{AreSegments, IsCutOff, IsTakenIn, IsWithin};
 
-use crate::cut::cut_line;
+use crate::cut::{after_empty_lines, cut_line};
 use crate::find::{Piece, before};
 use rr_ical::{OpenNames, Sought};
 use rr_model::{Fault, Line, LineList, NoMemory, Refusal};
@@ -101,7 +101,11 @@ pub fn segments<'a>(
             first: cut.next,
         };
         cutter.step(alloc, sought, rest, &cut.line, after)?;
-        rest = after;
+        let left = after_empty_lines(cut.after, cut.next);
+        rest = Piece {
+            text: left.text,
+            first: left.number,
+        };
     }
     if !cutter.names.is_empty() {
         return Err(Fault::Refused(Refusal::BadLine(rest.first.saturating_sub(1))));

@@ -1,13 +1,15 @@
 -- The tally of tasks and journal entries line by line.
-use Rattle.std.proofs.Common.{◌≡◌, ℕ, ◌+◌, ◌≤◌, Bool, true, false, cond, List, [], ◌∷◌, length, codes, Result, Ok, Err, ap, ◌∙◌, arith}
+use Rattle.std.proofs.Common.{◌≡◌, ℕ, ◌+◌, ◌≤◌, ◌&&◌, not, Bool, true, false, cond, List, [], ◌∷◌, length, codes, Result, Ok, Err, ap, ◌∙◌, arith}
 use Rattle.rr_model.specs.Text.Lines.{physical_lines}
 use Rattle.rr_model.specs.declared.line.Line.{Line}
 use Rattle.rr_model.specs.declared.refusal.Refusal.{Refusal}
-use Rattle.rr_ical.specs.Components.{open_after}
-use Rattle.rr_events.specs.Cutting.{IsCut, lines_at}
+use Rattle.rr_ical.specs.Components.{is_within_event, open_after}
+use Rattle.rr_events.specs.Cutting.{AreEmpty, IsCut, lines_at}
+use Rattle.rr_events.proofs.EmptyLemmas.{empty-first, empty_line}
 use Rattle.rr_events.proofs.LineLemmas.{line-first}
 use Rattle.rr_icalfile.specs.Unread.{IsAtFault, IsNextTally, count_from, count_of, counted, is_begun, none_unread, unread_in}
 use Rattle.rr_icalfile.specs.declared.unread.Unread.{Unread}
+use Rattle.rr_icalfile.proofs.FullLemmas.{empty-open}
 
 -- the tally, and what is counted from here on, is that of the text
 pub record IsTally (text rest : List ℕ) (number : ℕ) (names : List (List ℕ)) (so_far : Unread) : Type 0 where
@@ -66,3 +68,23 @@ module _ (text rest : List ℕ) (number : ℕ) (names : List (List ℕ)) (so_far
       let journals : count_from (codes "VJOURNAL") names (lines_at number rest) ≡ 0 =
       ap (λ (bytes : List ℕ). count_from (codes "VJOURNAL") names (lines_at number bytes)) none in
       same_tally so_far (unread_in text) (omega (arith, tasks, tally.tasks)) (omega (arith, journals, tally.journals))
+
+-- ---- empty lines
+
+none-begun : (outside : Bool) (count : ℕ) → count ≡ count + cond (outside && false) 1 0
+none-begun true count = omega arith
+none-begun false count = omega arith
+
+empty-next : (names : List (List ℕ)) (number : ℕ) (so_far : Unread) → IsNextTally names names (empty_line number) so_far so_far
+empty-next names number so_far = record {
+  opened = empty-open names number;
+  tasks = none-begun (not (is_within_event names)) so_far.tasks;
+  journals = none-begun (not (is_within_event names)) so_far.journals;
+}
+
+pub tally-over : (text : List ℕ) (number : ℕ) (rest after : List ℕ) (next : ℕ) (names : List (List ℕ)) (so_far : Unread) → AreEmpty number rest after next
+    → IsTally text rest number names so_far → IsTally text after next names so_far
+tally-over text number rest _ _ names so_far AreEmpty.none tally = tally
+tally-over text number rest _ _ names so_far (AreEmpty.more left after at empty one) tally =
+    tally-next text left at names so_far (tally-over text number rest left at names so_far empty tally) (empty_line at) after (at + 1) (empty-first at left after one)
+    names so_far (empty-next names at so_far)

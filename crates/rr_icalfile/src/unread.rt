@@ -3,7 +3,7 @@ ghost use Rattle.std.specs.Prelude.{◌≡◌, ◌<◌, ◌+◌, ◌^◌, codes,
 ghost use Rattle.rr_icalfile.specs.Unread.{IsTallied, begins, unread, unread_in};
 
 use crate::zone::value_on;
-use rr_events::cut_line;
+use rr_events::{Rest, after_empty_lines, cut_line};
 use rr_ical::{OpenNames, is_named, is_same_name};
 use rr_model::{Fault, Line, NoMemory};
 use rr_seam::MAX_FILE;
@@ -76,15 +76,13 @@ fn unread_in(alloc: Global, text: &[u8]) -> Result<Unread, NoMemory>
         tasks: 0,
         journals: 0,
     };
-    let mut rest = text;
-    let mut number = 1u64;
-    while let Some(cut) = cut_line(alloc, rest, number)? {
+    let mut rest = Rest { text, number: 1 };
+    while let Some(cut) = cut_line(alloc, rest.text, rest.number)? {
         let Some(next) = step(alloc, &mut names, unread, &cut.line)? else {
             return Ok(unread);
         };
         unread = next;
-        number = cut.next;
-        rest = cut.after;
+        rest = after_empty_lines(cut.after, cut.next);
     }
     Ok(unread)
 }

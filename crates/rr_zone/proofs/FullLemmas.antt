@@ -1,5 +1,5 @@
 -- Empty lines say nothing of a component.
-use Rattle.std.proofs.Common.{◌≡◌, ℕ, Bool, true, false, cond, not, ◌&&◌, if◌then◌else◌, List, [], ◌∷◌, ◌++◌, Option, Some, codes, Result, Ok, Err, refl, sym, ap, ◌∙◌, append_assoc, append-nil}
+use Rattle.std.proofs.Common.{◌≡◌, ℕ, ◌+◌, Bool, true, false, cond, not, ◌&&◌, if◌then◌else◌, List, [], ◌∷◌, ◌++◌, Option, Some, codes, Result, Ok, Err, refl, sym, ap, ◌∙◌, append_assoc, append-nil}
 use Rattle.std.specs.Prelude.{bytes_eq, option_and_then}
 use Rattle.std.specs.List.{filter}
 use Rattle.std.specs.Option.{is_some}
@@ -9,9 +9,10 @@ use Rattle.rr_model.specs.Text.UsedLines.{is_named, line_kind, value_of_line}
 use Rattle.rr_model.specs.declared.line.Line.{Line}
 use Rattle.rr_model.specs.declared.refusal.Refusal.{Refusal}
 use Rattle.rr_model.specs.declared.used.Scan.{Scan}
-use Rattle.rr_events.specs.Cutting.{IsCut, has_text}
+use Rattle.rr_events.specs.Cutting.{AreEmpty, IsCut, has_text}
 use Rattle.rr_events.specs.Own.{first_named, own_line, own_lines, value_or_empty}
 use Rattle.rr_events.specs.RawLines.{lines_of, raw_lines_at}
+use Rattle.rr_events.proofs.EmptyLemmas.{empty-first, empty_line}
 use Rattle.rr_events.proofs.SegmentLemmas.{cut-line, raw-first}
 use Rattle.rr_ical.specs.Components.{open_after}
 use Rattle.rr_zone.specs.Events.{event_facts, facts_of, start_on}
@@ -165,6 +166,14 @@ one_part line more = by (has_text line)
     by : (b : Bool) → cond b (line ∷ filter has_text more) (filter has_text more) ≡ cond b (line ∷ []) [] ++ filter has_text more
     by true = refl
     by false = refl
+
+-- empty lines are left out
+pub none_full : (number : ℕ) (text rest : List ℕ) (at : ℕ) → AreEmpty number text rest at
+    → filter has_text (lines_of (raw_lines_at number text)) ≡ filter has_text (lines_of (raw_lines_at at rest))
+none_full number text rest at AreEmpty.none = refl
+none_full number text _ _ (AreEmpty.more rest after at empty one) =
+    none_full number text rest at empty
+    ∙ ap (filter has_text) (lines_first at rest (empty_line at) after (at + 1) (empty-first at rest after one))
 
 -- the lines with a byte, as far as they are put
 pub one_put : (lines next all : List Line) (number : ℕ) (text : List ℕ) (line : Line) (after : List ℕ) (m : ℕ) → IsCut number text line after m

@@ -1,16 +1,17 @@
 -- The lines of an event written again.
 use Rattle.std.proofs.Common.{◌≡◌, ℕ, zero, suc, ◌+◌, ◌-◌, ◌<◌, ◌==◌, ◌&&◌, not, Bool, true, false, List, [], ◌∷◌, ◌++◌, length}
-use Rattle.std.proofs.Common.{refl, sym, ap, ◌∙◌, codes, arith, append_assoc, append-nil, Option, Result, Ok, Err, OnOk}
+use Rattle.std.proofs.Common.{refl, sym, ap, ◌∙◌, codes, arith, append_assoc, append-nil, Option, None, Some, Result, Ok, Err, OnOk}
 use Rattle.std.specs.List.{onto_first}
 use Rattle.rr_model.specs.Text.Event.{is_in_event}
 use Rattle.rr_model.specs.Text.Lines.{begins_blank, physical_lines}
 use Rattle.rr_model.specs.declared.line.Line.{Line}
 use Rattle.rr_model.specs.declared.refusal.Refusal.{Refusal}
-use Rattle.rr_events.specs.Cutting.{raw_texts, IsCut}
+use Rattle.rr_events.specs.Cutting.{raw_texts, AreEmpty, IsCut, IsEmptyLine}
 use Rattle.rr_ical.specs.Components.{open_after}
 use Rattle.rr_events.specs.Finding.{before}
 use Rattle.rr_events.specs.RawLines.{RawLine, bytes_of, raw_line, raw_lines_at, raw_lines_from}
 use Rattle.rr_events.specs.declared.find.Piece.{Piece}
+use Rattle.rr_events.proofs.EmptyLemmas.{empty-first, empty-open, empty_line}
 use Rattle.rr_events.proofs.PartLemmas.{part-before}
 use Rattle.rr_events.proofs.SegmentLemmas.{cut-line, raw-first}
 use Rattle.rr_zone.specs.Rewritten.{blank_lines, local_lines, local_raw, local_step, rewritten}
@@ -79,6 +80,17 @@ first-raw number text line after next cut =
 abbrev pub line : List Observance → List (List RawLine) → Option (Bor (List ℕ)) → Bool → List ℕ → List ℕ
 line zone zones name is_instance text = event_line (local_time zone) zones (option_map (λ (n : Bor (List ℕ)). n.now) name) is_instance text
 
+-- an empty line stays
+pub blank-line : (zone : List Observance) (zones : List (List RawLine)) (name : Option (Bor (List ℕ))) (is_instance : Bool) → line zone zones name is_instance [] ≡ []
+blank-line zone zones None true = refl
+blank-line zone zones None false = refl
+blank-line zone zones (Some name) true = refl
+blank-line zone zones (Some name) false = refl
+
+-- a piece of these bytes
+abbrev at_bytes : ℕ → List ℕ → Piece
+at_bytes number text = record { text = record { ref_ptr = (0, 0); now = text }; first = number }
+
 -- a text that is another is written in its place
 pub own-put : {A E : Type 0} (r : Result A E) (old new text bytes written line : List ℕ) (blanks : ℕ) → written ≡ line
     → OnOk r (new ≡ old ++ rewritten written text bytes blanks) → OnOk r (new ≡ old ++ rewritten line text bytes blanks)
@@ -135,6 +147,56 @@ module _ (f : List ℕ → List ℕ) where
       ∙ append_assoc old (local_raw f is_own raw) (local_lines f after_names (raw_lines_in after))
       ∙ ap (λ (b : Bool). old ++ (local_raw f b raw ++ local_lines f after_names (raw_lines_in after))) own
       ∙ ap (λ (t : List ℕ). old ++ t) (sym (lines-more names after_names rest after line cut opened)) ∙ so_far
+
+  -- ---- empty lines
+
+  -- what empty lines add is their bytes
+  record IsPassed (names : List (List ℕ)) (number : ℕ) (text rest : List ℕ) (at : ℕ) : Type 0 where
+    part : List ℕ
+    joined : text ≡ part ++ rest
+    same : local_lines f names (raw_lines_at number text) ≡ part ++ local_lines f names (raw_lines_at at rest)
+
+  module _ (blank : f [] ≡ []) where
+    one-empty : (names : List (List ℕ)) (number : ℕ) (text after : List ℕ) → IsEmptyLine text after → IsPassed names number text after (number + 1)
+    one-empty names number text after one = record {
+      part = before text after;
+      joined = cut.one.parts.joined ∙ ap (λ (t : List ℕ). t ++ after) (sym (front-part number text (empty_line number) after (number + 1) cut));
+      same =
+          lines-more names names (at_bytes number text) (at_bytes (number + 1) after) (empty_line number) cut (empty-open names number)
+          ∙ ap (λ (t : List ℕ). t ++ local_lines f names (raw_lines_at (number + 1) after)) (by (is_in_event names && is_in_event names));
+    }
+      where
+        cut : IsCut number text (empty_line number) after (number + 1)
+        cut = empty-first number text after one
+
+        by : (is_own : Bool) → local_raw f is_own (raw_line number (before text after)) ≡ before text after
+        by true =
+            own-raw number text (empty_line number) after (number + 1) cut
+            ∙ ap (λ (t : List ℕ). rewritten t [] (before text after) ((number + 1) - number - 1)) blank
+        by false = refl
+
+    all-empty : (names : List (List ℕ)) (number : ℕ) (text rest : List ℕ) (at : ℕ) → AreEmpty number text rest at → IsPassed names number text rest at
+    all-empty names number text rest at AreEmpty.none = record { part = []; joined = refl; same = refl }
+    all-empty names number text _ _ (AreEmpty.more rest after at empty one) =
+        let some = all-empty names number text rest at empty in
+        let last = one-empty names at rest after one in
+        record {
+          part = some.part ++ last.part;
+          joined = some.joined ∙ ap (λ (t : List ℕ). some.part ++ t) last.joined ∙ sym (append_assoc some.part last.part after);
+          same =
+              some.same ∙ ap (λ (t : List ℕ). some.part ++ t) last.same
+              ∙ sym (append_assoc some.part last.part (local_lines f names (raw_lines_at (at + 1) after)));
+        }
+
+    pub event-passed : (names : List (List ℕ)) (number : ℕ) (text rest : List ℕ) (at : ℕ) (old new all : List ℕ) → AreEmpty number text rest at
+        → new ≡ old ++ before text rest → old ++ local_lines f names (raw_lines_at number text) ≡ all
+        → new ++ local_lines f names (raw_lines_at at rest) ≡ all
+    event-passed names number text rest at old new all empty put so_far =
+        let passed = all-empty names number text rest at empty in
+        let whole : new ≡ old ++ passed.part = put ∙ ap (λ (t : List ℕ). old ++ t) (part-before text passed.part rest passed.joined) in
+        ap (λ (t : List ℕ). t ++ local_lines f names (raw_lines_at at rest)) whole
+        ∙ append_assoc old passed.part (local_lines f names (raw_lines_at at rest))
+        ∙ ap (λ (t : List ℕ). old ++ t) (sym passed.same) ∙ so_far
 
   -- behind a fault all stays
   pub event-fault : (names : List (List ℕ)) (rest after : Piece) (line : Line) (refusal : Refusal) (old new all : List ℕ)

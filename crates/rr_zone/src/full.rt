@@ -5,7 +5,7 @@ ghost use Rattle.rr_events.specs.Cutting.{has_text};
 ghost use Rattle.rr_events.specs.RawLines.{lines_of};
 ghost use Rattle.rr_zone.specs.Zones.{IsNumbered, first_number, have_same_texts, raw_lines_in};
 
-use rr_events::{Piece, cut_line};
+use rr_events::{Piece, Rest, after_empty_lines, cut_line};
 use rr_model::{Line, LineList, NoMemory};
 use std::alloc::Global;
 
@@ -32,13 +32,13 @@ pub(crate) fn full_lines(alloc: Global, piece: Piece) -> Result<LineList, NoMemo
     ensures { IfOk result (λ lines. lines ≡ filter has_text (lines_of (raw_lines_in piece.entry))) }
 {
     let mut lines = LineList::new(alloc);
-    let mut rest = piece;
-    while let Some(cut) = cut_line(alloc, rest.text, rest.first)? {
-        rest = Piece {
-            text: cut.after,
-            first: cut.next,
-        };
+    let mut rest = Rest {
+        text: piece.text,
+        number: piece.first,
+    };
+    while let Some(cut) = cut_line(alloc, rest.text, rest.number)? {
         put_line(&mut lines, cut.line)?;
+        rest = after_empty_lines(cut.after, cut.next);
     }
     Ok(lines)
 }

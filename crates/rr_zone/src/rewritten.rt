@@ -1,6 +1,6 @@
 // The lines of an event written again, each on as many physical lines as it had.
-ghost use Rattle.std.specs.Prelude.{◌≡◌, [], option_map, OnOk};
-ghost use Rattle.rr_events.specs.Cutting.{IsCut};
+ghost use Rattle.std.specs.Prelude.{◌≡◌, ◌<◌, ◌≤◌, ◌+◌, ◌^◌, ◌++◌, [], length, option_map, IfOk, OnOk};
+ghost use Rattle.rr_events.specs.Cutting.{AreEmpty, IsCut};
 ghost use Rattle.rr_events.specs.Finding.{before};
 ghost use Rattle.rr_events.specs.RawLines.{raw_line};
 ghost use Rattle.rr_text.specs.Appending.{Appends};
@@ -12,7 +12,7 @@ ghost use Rattle.rr_zone.specs.Clocks.{local_time};
 use crate::clock::Clock;
 use crate::clocks::Clocks;
 use crate::line::{before, push_event_line};
-use rr_events::{Cut, Piece, cut_line};
+use rr_events::{Cut, Piece, after_empty_lines, cut_line};
 use rr_ical::OpenNames;
 use rr_model::{Fault, Line, NoMemory};
 use std::alloc::Global;
@@ -126,6 +126,21 @@ fn push_cut(
     )
 }
 
+// The empty lines at the front of a text, whose first physical line has this number, as they are. What follows them is left.
+fn push_empty<'a>(out: &mut Vec<u8>, text: &'a [u8], number: u64) -> Result<Piece<'a>, NoMemory>
+    requires { number + length text.now < 2 ^ 64 }
+    ensures empty { IfOk result (λ rest. AreEmpty number text.now rest.text.now rest.first) }
+    ensures value { IfOk result (λ rest. out.new.items ≡ out.old.items ++ before text.now rest.text.now) }
+    ensures shorter { IfOk result (λ rest. length rest.text.now ≤ length text.now) }
+{
+    let left = after_empty_lines(text, number);
+    out.extend_from_slice(before(text, left.text))?;
+    Ok(Piece {
+        text: left.text,
+        first: left.number,
+    })
+}
+
 /// The bytes of the lines of an event, its own ones with their moments in the zone of this name, whose clock this is; without a name in UTC.
 pub(crate) fn push_event(
     alloc: Global,
@@ -163,10 +178,7 @@ pub(crate) fn push_event(
                 return Ok(());
             }
         }
-        rest = Piece {
-            text: cut.after,
-            first: cut.next,
-        };
+        rest = push_empty(out, cut.after, cut.next)?;
     }
     Ok(())
 }

@@ -10,7 +10,7 @@ ghost use Rattle.rr_zone.specs.Zones.{IsNumbered, are_same, has_name, observance
 
 use crate::full::{first_number, full_lines, have_same_texts};
 use crate::observance::{Observance, read_observance};
-use rr_events::{Piece, Segment, cut_line, segments};
+use rr_events::{Piece, Rest, Segment, after_empty_lines, cut_line, segments};
 use rr_ical::{Sought, is_named, value_of_line};
 use rr_model::{Fault, NoMemory};
 use std::alloc::Global;
@@ -157,15 +157,15 @@ fn has_name(alloc: Global, name: &[u8], piece: Piece) -> Result<bool, NoMemory>
     requires { IsNumbered piece }
     ensures { IfOk result (λ has. has ≡ has_name name.now (raw_lines_in piece.entry)) }
 {
-    let mut rest = piece;
-    while let Some(cut) = cut_line(alloc, rest.text, rest.first)? {
+    let mut rest = Rest {
+        text: piece.text,
+        number: piece.first,
+    };
+    while let Some(cut) = cut_line(alloc, rest.text, rest.number)? {
         if is_named(cut.line.text.as_slice(), b"TZID") {
             return Ok(states_name(cut.line.text.as_slice(), name));
         }
-        rest = Piece {
-            text: cut.after,
-            first: cut.next,
-        };
+        rest = after_empty_lines(cut.after, cut.next);
     }
     Ok(name.is_empty())
 }

@@ -1,6 +1,7 @@
 use Rattle.std.proofs.Common.{sym, refl, ◌∙◌}
 use Rattle.std.proofs.lemmas.Result.{err_from_is_err_and}
-use Rattle.rr_events.proofs.SegmentLemmas.{after-shorter, all-found, at-start, begun-longer, fault-found, one_more, still-open}
+use Rattle.rr_events.specs.declared.find.Piece.{Piece}
+use Rattle.rr_events.proofs.SegmentLemmas.{after-shorter, all-found, at-start, begun-longer, fault-found, one_more, passed-over, still-open}
 use Rattle.rr_events.proofs.LineLemmas.{cut-of, no-cut}
 use Rattle.rr_events.proofs.segment.segments.Goals as goal
 
@@ -26,8 +27,11 @@ returns-in_err-step-clause-found c =
 pub loop-cutter-preserved : goal.loop-cutter-preserved
 loop-cutter-preserved c =
     let cut = cut-of c.loop-cutter.rest.first c.loop-cutter.rest.text.now _ c.in-Some.cut c.in-Some.is c.in_ok-cut.ensures in
-    one_more c.args.sought c.args.piece c.loop-cutter.rest (record { text = c.in-Some.cut.after; first = c.in-Some.cut.next }) c.in-Some.cut.line
-    c.loop-cutter.cutter c.step.new.self cut c.in_ok-step.ensures c.loop-cutter.invariant
+    let after : Piece = record { text = c.in-Some.cut.after; first = c.in-Some.cut.next } in
+    let left = c.after_empty_lines-left in
+    passed-over c.args.sought c.args.piece c.step.new.self after (record { text = left.result.text; first = left.result.number }) left.ensures.empty
+    (one_more c.args.sought c.args.piece c.loop-cutter.rest after c.in-Some.cut.line c.loop-cutter.cutter c.step.new.self cut c.in_ok-step.ensures
+    c.loop-cutter.invariant)
 
 pub returns-then-not-is_empty-clause-found : goal.returns-then-not-is_empty-clause-found
 returns-then-not-is_empty-clause-found c =
