@@ -1,0 +1,3 @@
+-- Lemmas on the work of series.
+mod CycleLemmas
+mod LawProofs
