@@ -42,8 +42,7 @@ pub const ASK_FOR_OCCURRENCE: &str =
      Ask for the member occurrenceId too.";
 
 /// What to do about `KeyRefusal::TooMuchWork`.
-pub const DIVIDE_THE_CALENDAR: &str =
-    "The series takes too much work in a file of so many events. \
+pub const DIVIDE_THE_CALENDAR: &str = "The series takes too much work in a file of so many events. \
      Compare it in a file of its own, or divide the calendar into several files.";
 
 /// What to do about `Refusal::BadLine`.

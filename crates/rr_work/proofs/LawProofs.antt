@@ -1,7 +1,8 @@
 -- What is within its share is stated as it was, and all shares together are bounded.
-use Rattle.std.proofs.Common.{◌≡◌, ℕ, zero, suc, ◌+◌, ◌*◌, ◌≤◌, ◌<◌, Bool, false, if◌then◌else◌, List, [], ◌∷◌, length, All, Result, Ok, Err, sum, ap, refl, subst, arith}
-use Rattle.std.proofs.Math.Nat.{le_of_mul-le-mul_right}
+use Rattle.std.proofs.Common.{◌≡◌, ℕ, zero, suc, ◌+◌, ◌*◌, ◌≤◌, ◌<◌, Bool, false, if◌then◌else◌, List, [], ◌∷◌, length, All, Result, Ok, Err, sum, ap, refl, ◌∙◌, arith}
+use Rattle.std.proofs.Math.Nat.{add-mul, le_of_mul-le-mul_right}
 use Rattle.std.proofs.lemmas.List.Elements.{All-head, All-tail}
+use Rattle.std.proofs.lemmas.List.Sums.{sum_by-cons}
 use Rattle.rr_model.specs.declared.rule.Series.{Series}
 use Rattle.rr_seam.specs.Stated.{Stated}
 use Rattle.rr_seam.specs.declared.refusal.KeyRefusal.{KeyRefusal}
@@ -24,13 +25,17 @@ within_is_unchanged count stated h =
 
 -- ---- all shares together
 
-IsShare : ℕ → ℕ → Type 0
+abbrev IsShare : ℕ → ℕ → Type 0
 IsShare count work = work * count ≤ MAX_WORK
 
 shares : (count : ℕ) (works : List ℕ) → All (IsShare count) works → sum works * count ≤ length works * MAX_WORK
 shares count [] h = omega arith
 shares count (work ∷ works) h =
-    omega (arith, All-head (IsShare count) work works h, shares count works (All-tail (IsShare count) work works h))
+    let first : work * count ≤ MAX_WORK = All-head (IsShare count) work works h in
+    let rest : sum works * count ≤ length works * MAX_WORK = shares count works (All-tail (IsShare count) work works h) in
+    let both : sum (work ∷ works) * count ≡ work * count + sum works * count =
+    ap (λ n. n * count) (sum_by-cons (λ x. x) work works) ∙ add-mul work (sum works) count in
+    omega (arith, first, rest, both)
 
 none : (works : List ℕ) → length works ≤ 0 → sum works ≤ MAX_WORK
 none [] h = omega arith
@@ -39,4 +44,6 @@ none (work ∷ works) h = absurd (omega (arith, h))
 pub shares_are_bounded : SharesAreBounded
 shares_are_bounded zero works few h = none works few
 shares_are_bounded (suc n) works few h =
-    le_of_mul-le-mul_right (omega (arith, few, shares (suc n) works h)) (omega arith)
+    let all : sum works * suc n ≤ length works * MAX_WORK = shares (suc n) works h in
+    let most : sum works * suc n ≤ MAX_WORK * suc n = omega (arith, few, all) in
+    le_of_mul-le-mul_right {k = suc n} most (omega arith)

@@ -69,16 +69,23 @@ fn reach_of_rules(first: i64, dates: u64, rules: &[Rule]) -> u64
     farthest
 }
 
+// How far a date reaches.
+fn reach_of_date(kind: Kind, first: i64, at: i64) -> u64
+    ensures value { result ≡ days_after first (day_part kind at) }
+    ensures few { result ≤ MAX_SPAN_DAYS }
+{
+    days_after(first, day_part(kind, at))
+}
+
 // How far dates reach.
 fn reach_of_dates(kind: Kind, first: i64, dates: &Dates) -> u64
     ensures value { result ≡ reach_of_dates kind first dates.now }
     ensures few { result ≤ MAX_SPAN_DAYS }
 {
-    let dates = dates.as_slice();
-    if dates.is_empty() {
-        return 0;
+    match dates.as_slice().last() {
+        None => 0,
+        Some(at) => reach_of_date(kind, first, *at),
     }
-    days_after(first, day_part(kind, dates[dates.len() - 1]))
 }
 
 // The farthest of both kinds of dates.
