@@ -1,7 +1,7 @@
 #!/bin/sh
 # The worst of each kind of file that `rr-calendars` takes: seconds of the processor and the most memory in megabytes, each file of 64 MiB
 # beside one without an event, and events that are dear to work out, beside the same in other words. Of files whose line says 'per file' the
-# limits bound a whole file; an event has limits of its own and a file none but its length, so of the others they bound each event alone.
+# limits bound a whole file; of the others they bound these events, and a file of more is bounded by the shares of work of its events.
 # In release 0.20.0, on a busy machine (seconds, megabytes): line feeds in front 3.9, 67; outside 3.8, 67; in an event 2.2, 67; in an event
 # that is written in local time of its zone 9.8, 2,690; in a VTIMEZONE 7.9, 4,330; in an observance 9.9, 8,520; in an event of vCalendar 7.4, 2,690.
 # Usage: bench/worst_calendars.sh [PROGRAM], after the program was built. It stands on GNU time; the status is 1 if a limit is passed.
@@ -51,6 +51,8 @@ feeds list.json '[' ']'
 months=BYMONTH=1,2,3,4,5,6,7,8,9,10,11,12
 events seconds.ics 4 "FREQ=SECONDLY;INTERVAL=113;$months" 'FREQ=MONTHLY;INTERVAL=113'
 events seconds-again.ics 4 'FREQ=MONTHLY;INTERVAL=113' "FREQ=SECONDLY;INTERVAL=113;$months"
+events shares.ics 250 "FREQ=SECONDLY;INTERVAL=113;$months" 'FREQ=MONTHLY;INTERVAL=113'
+events dear.ics 400000 "FREQ=SECONDLY;INTERVAL=113;$months" 'FREQ=MONTHLY;INTERVAL=113'
 events days.ics 4 'FREQ=DAILY;COUNT=9999991' 'FREQ=DAILY;INTERVAL=2;COUNT=5000011'
 events days-again.ics 4 'FREQ=DAILY;INTERVAL=2;COUNT=5000011' 'FREQ=DAILY;COUNT=9999991'
 
@@ -63,4 +65,6 @@ measure 6 300 'per file, line feeds in an observance' "$scratch/observance.ics" 
 measure 6 300 'per file, line feeds in a list of Graph' "$scratch/list.json" "$scratch/none.ics"
 measure 6 300 'four events, seconds beside a long rule' "$scratch/seconds.ics" "$scratch/seconds-again.ics"
 measure 6 300 'four events, two rules of millions of days' "$scratch/days.ics" "$scratch/days-again.ics"
+measure 100 300 '250 events, each within its share of work' "$scratch/shares.ics" "$scratch/shares.ics"
+measure 40 600 'per file, events beyond their shares of work' "$scratch/dear.ics" "$scratch/dear.ics"
 exit "$worst"

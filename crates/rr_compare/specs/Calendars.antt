@@ -10,6 +10,7 @@ use Rattle.rr_seam.specs.declared.file.TheConstants.{MAX_FILE}
 use Rattle.rr_seam.specs.declared.key.Key.{Key}
 use Rattle.rr_offsets.specs.Meanings.{zones_of_text}
 use Rattle.rr_trip.specs.Zoned.{Meaning, ZonedCalendar, zoned}
+use Rattle.rr_work.specs.Share.{stated_within}
 use Rattle.rr_zone.specs.Local.{in_local_time}
 use Rattle.rr_compare.specs.Languages.{language_by}
 use Rattle.rr_compare.specs.Names.{meaning_by}
@@ -41,9 +42,15 @@ stated_in f indexes = (own_calendar f).stated indexes
 abbrev pub titles_in : AnyFile → ℕ → List ℕ
 titles_in f index = (own_calendar f).titles index
 
--- a calendar whose series that are at odds with RFC 5545 are read as calendars show them, if that is asked for
+-- what is stated in a file of so many events, read as calendars show it if that is asked for, and refused if it takes more than its share of work
+abbrev pub stated_as : ℕ → Bool → Stated → Stated
+stated_as count lenient stated = stated_within count (stated_if lenient stated)
+
+-- a calendar whose series that are at odds with RFC 5545 are read as calendars show them, if that is asked for, and whose keys have equal shares of
+-- the work of a file
 abbrev pub calendar_read : Bool → Calendar → Calendar
-calendar_read lenient calendar = calendar_by calendar.keys (λ indexes. stated_if lenient (calendar.stated indexes)) calendar.titles
+calendar_read lenient calendar =
+    calendar_by calendar.keys (λ indexes. stated_as (length calendar.keys) lenient (calendar.stated indexes)) calendar.titles
 
 -- the calendar that a file is, which was read so
 abbrev pub calendar_in : ReadFile → Calendar

@@ -1,6 +1,6 @@
 // A file of either calendar, in its language.
-ghost use Rattle.std.specs.Prelude.{◌≡◌};
-ghost use Rattle.rr_compare.specs.Calendars.{calendar_in, calendar_of, own_calendar, own_calendar_of};
+ghost use Rattle.std.specs.Prelude.{◌≡◌, ℕ, IfOk};
+ghost use Rattle.rr_compare.specs.Calendars.{calendar_in, calendar_of, own_calendar, own_calendar_of, stated_as};
 ghost use Rattle.rr_compare.specs.Names.{meaning_of_names};
 ghost use Rattle.rr_compare.specs.Turned.{calendar as graph_calendar};
 ghost use Rattle.rr_icalfile.specs.Calendar.{calendar as ical_calendar};
@@ -18,6 +18,7 @@ use rr_lenient::{read_key, read_key_is_stated};
 use rr_model::{Bytes, NoMemory};
 use rr_seam::{EventFile, FileFault, Key, KeyFault, KeySeries, KeyWords};
 use rr_vcalfile::VcalFile;
+use rr_work::within_share;
 use std::alloc::Global;
 
 /// A file of either calendar, in its language.
@@ -139,7 +140,8 @@ impl<'a> EventFile for AnyFile<'a> {
     }
 }
 
-/// A file of either calendar, whose series that are at odds with RFC 5545 are read as calendars show them, if that is asked for.
+/// A file of either calendar, whose series that are at odds with RFC 5545 are read as calendars show them, if that is asked for, and whose
+/// keys have equal shares of the work of a file.
 #[derive(Drop)]
 pub struct ReadFile<'a> {
     file: AnyFile<'a>,
@@ -169,7 +171,8 @@ impl<'a> ReadFile<'a> {
 // What the events of a key state, read as calendars show it if that is asked for.
 fn read_if(alloc: Global, is_lenient: bool, key: KeySeries) -> Result<KeySeries, KeyFault>
     requires { IsValidSeries key.series }
-    ensures { (stated : Stated) → IsKeyStated stated key → AnswersStated (stated_if is_lenient stated) result }
+    ensures stated { (stated : Stated) → IsKeyStated stated key → AnswersStated (stated_if is_lenient stated) result }
+    ensures valid { IfOk result (λ read. IsValidSeries read.series) }
 {
     read_key_is_stated();
     if !is_lenient {
@@ -178,6 +181,22 @@ fn read_if(alloc: Global, is_lenient: bool, key: KeySeries) -> Result<KeySeries,
     match read_key(alloc, key) {
         Ok(read) => Ok(read),
         Err(NoMemory) => Err(KeyFault::NoMemory),
+    }
+}
+
+// The same in a file of so many events, unless it takes more than its share of work.
+fn read_within(
+    alloc: Global,
+    is_lenient: bool,
+    count: usize,
+    key: KeySeries,
+) -> Result<KeySeries, KeyFault>
+    requires { IsValidSeries key.series }
+    ensures { (stated : Stated) → IsKeyStated stated key → AnswersStated (stated_as count is_lenient stated) result }
+{
+    match read_if(alloc, is_lenient, key) {
+        Ok(read) => within_share(count, read),
+        Err(fault) => Err(fault),
     }
 }
 
@@ -200,7 +219,7 @@ impl<'a> EventFile for ReadFile<'a> {
 
     fn key_series(&self, alloc: Global, indexes: &[usize]) -> Result<KeySeries, KeyFault> {
         match self.file.key_series(alloc, indexes) {
-            Ok(key) => read_if(alloc, self.is_lenient, key),
+            Ok(key) => read_within(alloc, self.is_lenient, self.file.count(), key),
             Err(fault) => Err(fault),
         }
     }

@@ -41,6 +41,10 @@ pub const ASK_FOR_OCCURRENCE: &str =
     "A moved or cancelled occurrence does not say which one of its series it is. \
      Ask for the member occurrenceId too.";
 
+/// What to do about `KeyRefusal::TooMuchWork`.
+pub const DIVIDE_THE_CALENDAR: &str = "The series takes too much work in a file of so many events. \
+     Compare it in a file of its own, or divide the calendar into several files.";
+
 /// What to do about `Refusal::BadLine`.
 pub const MEND_THE_LINE: &str = "This line of the event has no value. \
                                  Mend it, or export the calendar again.";
@@ -225,6 +229,7 @@ pub fn advice_of(refusal: KeyRefusal) -> &'static str
         KeyRefusal::NotExpanded(_) => ASK_FOR_INSTANCES,
         KeyRefusal::NoMaster(_) => ASK_FOR_EVENTS,
         KeyRefusal::BadInstance(_) => ASK_FOR_OCCURRENCE,
+        KeyRefusal::TooMuchWork(_) => DIVIDE_THE_CALENDAR,
     }
 }
 

@@ -55,6 +55,7 @@ advice_utf8 (key.NoType _) = IsUtf8-are_ascii _ refl
 advice_utf8 (key.NotExpanded _) = IsUtf8-are_ascii _ refl
 advice_utf8 (key.NoMaster _) = IsUtf8-are_ascii _ refl
 advice_utf8 (key.BadInstance _) = IsUtf8-are_ascii _ refl
+advice_utf8 (key.TooMuchWork _) = IsUtf8-are_ascii _ refl
 
 pub file_advice_utf8 : (r : FileRefusal) → IsUtf8 (file_advice r)
 unfolding file_advice

@@ -231,6 +231,7 @@ key_refusal_utf8 (key.NoType place) = numbered (codes "NoType ") place refl
 key_refusal_utf8 (key.NotExpanded place) = numbered (codes "NotExpanded ") place refl
 key_refusal_utf8 (key.NoMaster place) = numbered (codes "NoMaster ") place refl
 key_refusal_utf8 (key.BadInstance place) = numbered (codes "BadInstance ") place refl
+key_refusal_utf8 (key.TooMuchWork place) = numbered (codes "TooMuchWork ") place refl
 
 pub file_refusal_utf8 : (r : FileRefusal) → IsUtf8 (drop 1 (file_refusal_text r))
 file_refusal_utf8 file.TooLong = IsUtf8-are_ascii (codes "TooLong") refl

@@ -32,6 +32,8 @@ pub enum KeyRefusal {
     NoMaster(u64),
     /// An instance that stands here, or one that a series standing here lists, does not say which occurrence it is.
     BadInstance(u64),
+    /// The series that stands here takes more than its share of the work of its file.
+    TooMuchWork(u64),
 }
 
 /// What a call that judges the events of a key answers in place of a value.

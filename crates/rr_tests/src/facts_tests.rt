@@ -59,7 +59,7 @@ const OF_EVENTS: [Refusal; 33] = [
     Refusal::PastRange,
 ];
 
-const OF_KEYS: [KeyRefusal; 8] = [
+const OF_KEYS: [KeyRefusal; 9] = [
     KeyRefusal::Range(1),
     KeyRefusal::TwoSeries(1),
     KeyRefusal::TwoInstances(1),
@@ -68,6 +68,7 @@ const OF_KEYS: [KeyRefusal; 8] = [
     KeyRefusal::NotExpanded(1),
     KeyRefusal::NoMaster(1),
     KeyRefusal::BadInstance(1),
+    KeyRefusal::TooMuchWork(1),
 ];
 
 const OF_FILES: [FileRefusal; 6] = [

@@ -57,3 +57,5 @@ mod trip_tests;
 mod vcal_tests;
 #[cfg(test)]
 mod wording_tests;
+#[cfg(test)]
+mod work_tests;

@@ -49,6 +49,7 @@ module _ (one : FirstRefusalIsOne) where
   by_limit place series (refusal.NotExpanded line) unrefused h = h
   by_limit place series (refusal.NoMaster line) unrefused h = h
   by_limit place series (refusal.BadInstance line) unrefused h = h
+  by_limit place series (refusal.TooMuchWork line) unrefused h = h
 
   pub not_refused : (stated : Stated) (series : Series) → stated.series ≡ Ok series → IsFirstRefusal all_limits series None → IsRefused stated → ⊥
   not_refused stated series states unrefused refused =

@@ -91,6 +91,7 @@ key_refusal_text (refusal.NoType place) = codes "NoType " ++ decimal place
 key_refusal_text (refusal.NotExpanded place) = codes "NotExpanded " ++ decimal place
 key_refusal_text (refusal.NoMaster place) = codes "NoMaster " ++ decimal place
 key_refusal_text (refusal.BadInstance place) = codes "BadInstance " ++ decimal place
+key_refusal_text (refusal.TooMuchWork place) = codes "TooMuchWork " ++ decimal place
 
 -- the name of the refusal of a whole file, as it is printed
 abbrev pub file_refusal_text : FileRefusal → List ℕ

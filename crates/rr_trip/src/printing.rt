@@ -139,6 +139,7 @@ pub fn push_key_refusal(
         KeyRefusal::NotExpanded(place) => push_numbered(out, b"NotExpanded ", place),
         KeyRefusal::NoMaster(place) => push_numbered(out, b"NoMaster ", place),
         KeyRefusal::BadInstance(place) => push_numbered(out, b"BadInstance ", place),
+        KeyRefusal::TooMuchWork(place) => push_numbered(out, b"TooMuchWork ", place),
     }
 }
 

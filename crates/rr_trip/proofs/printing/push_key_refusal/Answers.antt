@@ -19,3 +19,10 @@ returns-in-BadInstance c =
     (c.push_numbered-in-BadInstance.new.out.items ≡ c.args.out.now.items ++ key_refusal_text r))
     (sym c.in-BadInstance.is) (put_twice c.push_numbered-in-BadInstance.result c.push_numbered-in-BadInstance.new.out.items c.args.out.now.items
     (codes "BadInstance ") (decimal c.in-BadInstance.place) c.push_numbered-in-BadInstance.ensures)
+
+pub returns-in-TooMuchWork : goal.returns-in-TooMuchWork
+returns-in-TooMuchWork c =
+    subst (λ (r : KeyRefusal). OnOk c.push_numbered-in-TooMuchWork.result
+    (c.push_numbered-in-TooMuchWork.new.out.items ≡ c.args.out.now.items ++ key_refusal_text r))
+    (sym c.in-TooMuchWork.is) (put_twice c.push_numbered-in-TooMuchWork.result c.push_numbered-in-TooMuchWork.new.out.items c.args.out.now.items
+    (codes "TooMuchWork ") (decimal c.in-TooMuchWork.place) c.push_numbered-in-TooMuchWork.ensures)

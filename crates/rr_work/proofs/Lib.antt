@@ -1,0 +1,4 @@
+-- Lemmas on the work of series.
+mod CycleLemmas
+mod WorkLemmas
+mod LawProofs

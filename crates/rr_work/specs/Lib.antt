@@ -1,0 +1,4 @@
+pub mod Rules
+pub mod Work
+pub mod Share
+pub mod Laws
