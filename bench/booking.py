@@ -3,7 +3,7 @@
 
 What it costs to ask one candidate beside a room of 2,000 weekly bookings, or COUNT, in one call, and how many times that as many calls of `clear`
 cost. Both are measured in one run, from Python, in seconds of the processor, and of three times each the shortest counts. The ratios tell more than
-the times, which depend on the machine: they show that the candidate is read and folded once. Both ways must give the same lines.
+the times, which depend on the machine: they show that the candidate is read and tabulated once. Both ways must give the same lines.
 """
 import ctypes
 import datetime

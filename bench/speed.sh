@@ -12,7 +12,7 @@ lines() {
     counted "$1" 100000 "$2" list 100000 "rrule:$scratch/line"
 }
 
-# long LIMIT OTHER_LIMIT NAME: instructions for the verdict on the series `NAME` and itself, of which one is folded, and on it and
+# long LIMIT OTHER_LIMIT NAME: instructions for the verdict on the series `NAME` and itself, of which one is tabulated, and on it and
 # another text of it, of which both are.
 long() {
     cp "$scratch/$3" "$scratch/$3-other"

@@ -11,8 +11,8 @@ use Rattle.rr_model.specs.Sets.Reading.{days_from, day_after, sketch_with, steps
 use Rattle.rr_model.specs.declared.kind.Kind.{Kind}
 use Rattle.rr_model.specs.declared.sketch.DayShape.{DayShape}
 use Rattle.rr_model.proofs.YearLemmas.{from_year_one}
-use Rattle.rr_word.proofs.OneLeastLemmas.{sketch_is}
-use Rattle.rr_days.specs.Sketched.{IsWholeFold, shapes_from, sketch_of, with_day}
+use Rattle.rr_periodic.proofs.OneLeastLemmas.{sketch_is}
+use Rattle.rr_days.specs.Sketched.{IsWholeDayTable, shapes_from, sketch_of, with_day}
 use Rattle.rr_algebra.specs.Dense.{AreSteps, dense}
 use Rattle.rr_algebra.specs.Expanded.{AreEndless, AreFinite, HasSets, described_in, padded_to}
 use Rattle.rr_algebra.specs.Found.{IsReadDay}
@@ -169,7 +169,7 @@ module _ (kind : Kind) (count : ℕ) (shapes : List (List ℕ)) (has : HasSets k
         sketch_is (sketch_of kind shapes numbers first settled 1) (sketch_with (described_in kind shapes first before None) None) refl
         (ap (shapes_from shapes first) t ∙ days) end refl (ap (shapes_from shapes settled) r ∙ zeros_alone shapes has.empty m settled)
 
-    pub finite_whole : IsWholeFold kind shapes numbers first settled 1
+    pub finite_whole : IsWholeDayTable kind shapes numbers first settled 1
     finite_whole =
         let most = read.most in
         let short = dense_short (nat_abs (pos 40_000_000 -ℤ first)) (count - 1) 0 0 steps h (omega arith) in
@@ -233,7 +233,7 @@ module _ (kind : Kind) (count : ℕ) (shapes : List (List ℕ)) (has : HasSets k
         (dense_within end (count - 1) (length shapes) 0 0 ss (omega (arith, has.whole, has.some)) a)
         (zeros_within (n - length (dense 0 0 ss)) (length shapes) (omega (arith, has.whole, has.some)))
 
-    pub endless_whole : IsWholeFold kind shapes numbers first e.settled e.period
+    pub endless_whole : IsWholeDayTable kind shapes numbers first e.settled e.period
     endless_whole =
         let most = h.settled.most in
         let order = h.order in

@@ -8,7 +8,7 @@ use Rattle.std.proofs.lemmas.List.{get_or_default}
 use Rattle.std.proofs.lemmas.List.Kept.{AllPairs-cons}
 use Rattle.std.proofs.lemmas.List.Quantifiers.{all_pairs_push}
 use Rattle.rr_shapes.proofs.ShapeLemmas.{absent}
-use Rattle.rr_word.proofs.SetNumberLemmas.{IsKnown, number_within, All-front, All-back, All-with_sets_of}
+use Rattle.rr_periodic.proofs.SetNumberLemmas.{IsKnown, number_within, All-front, All-back, All-with_sets_of}
 use Rattle.std.proofs.lemmas.Int.{ints, by_lt_z}
 use Rattle.std.proofs.lemmas.List.Elements.{All-nil, All-cons, All-head, All-tail, All-append}
 use Rattle.rr_model.specs.Rising.Sets.{IsSecondsOfDay}
@@ -49,8 +49,8 @@ use Rattle.rr_canon.proofs.ReadingLemmas.{before_back, cycle_back, descriptor_re
 use Rattle.rr_model.proofs.YearLemmas.{from_year_one}
 use Rattle.rr_canon.proofs.SplittingLemmas.{first_same}
 use Rattle.rr_canon.specs.Items.{IsPrintedItem}
-use Rattle.rr_word.proofs.OneLeastLemmas.{before_part, first_period, one_least}
-use Rattle.rr_word.proofs.ShapeLemmas.{some_set, times_in-early}
+use Rattle.rr_periodic.proofs.OneLeastLemmas.{before_part, first_period, one_least}
+use Rattle.rr_periodic.proofs.ShapeLemmas.{some_set, times_in-early}
 
 -- ---- the first line
 

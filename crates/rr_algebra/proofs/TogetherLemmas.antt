@@ -21,9 +21,9 @@ use Rattle.rr_model.specs.declared.limits.TheConstants.{MAX_SECONDS}
 use Rattle.rr_model.specs.Sets.Sketch.{IsFirstDay, IsValidSketch, StandsFor, StandsIn, times_on}
 use Rattle.rr_model.specs.declared.kind.Kind.{Kind}
 use Rattle.rr_model.specs.declared.sketch.Sketch.{Sketch}
-use Rattle.rr_word.proofs.SketchLemmas.{repeats_from}
-use Rattle.rr_word.proofs.WindowLemmas.{RepeatsFrom-multiple, turns}
-use Rattle.rr_days.specs.Sketched.{IsWholeFold, sketch_of}
+use Rattle.rr_periodic.proofs.SketchLemmas.{repeats_from}
+use Rattle.rr_periodic.proofs.WindowLemmas.{RepeatsFrom-multiple, turns}
+use Rattle.rr_days.specs.Sketched.{IsWholeDayTable, sketch_of}
 use Rattle.rr_days.proofs.DistinctLemmas.{within_others}
 use Rattle.rr_days.proofs.SketchedLemmas.{times_after, times_before, times_early}
 use Rattle.rr_days.specs.MadeSets.{HoldsFor, IsMadeOf}
@@ -131,7 +131,7 @@ module _ (op : Op) (s u : Sketch) (vs : IsValidSketch s) (vu : IsValidSketch u) 
       )
 
   pub together_whole : AreDaySets kind sets → earliest_near ≤ℤ begin → (settled +ℤ pos period) ≤ℤ latest_near → period ≤ longest_period
-      → IsWholeFold kind sets numbers begin settled period
+      → IsWholeDayTable kind sets numbers begin settled period
   together_whole days low high few = record {
     order = t.order;
     whole = omega (arith, ints, full, at);

@@ -12,15 +12,15 @@ ghost use Rattle.rr_algebra.specs.Combined.{EndsNear, IsCombinedJudged, StandsFo
 ghost use Rattle.rr_days.specs.MadeSets.{RefusedOnlyWhere};
 ghost use Rattle.rr_algebra.specs.Combining.{AreDayNumbers, AreDaySets, AreMadeOnDays, AreTogether, HasDaysOf, HasTooManyMade, IsDaySet, IsDayTooMany, IsNumberOfDay, KnowsPairs, RefusedWhereTooMany, table};
 
-use rr_days::{CombinedSets, Folded, Op, sequence_of_numbers};
+use rr_days::{CombinedSets, DayTable, Op, sequence_of_numbers};
 use rr_model::{Fault, Kind, MAX_CYCLE_DAYS, NoMemory, Refusal};
 use rr_num::lcm_within;
-use rr_shapes::{FoldedSetId, Pair, Shapes};
-use rr_word::{DaySeq, days_between};
+use rr_periodic::{DaySeq, days_between};
+use rr_shapes::{Pair, ShapeId, Shapes};
 use std::alloc::Global;
 
 /// What is made of two sets of occurrences.
-pub type Combined = Folded;
+pub type Combined = DayTable;
 
 // The number of the set of a day plus 1, or 0 if the day has none.
 fn number_on<A: DaySeq>(seq: &A, day: i64) -> usize
@@ -43,7 +43,7 @@ fn number_of<A: DaySeq, B: DaySeq>(
     one: &A,
     other: &B,
     day: i64,
-) -> Result<FoldedSetId, Fault>
+) -> Result<ShapeId, Fault>
     requires low { earliest_near ≤ℤ day }
     requires high { day ≤ℤ latest_near }
     requires sets { AreDaySets kind sets.old.shapes }
@@ -136,7 +136,7 @@ fn combined_days<A: DaySeq, B: DaySeq>(
     begin: i64,
     settled: i64,
     period: u64,
-) -> Result<Folded, Fault>
+) -> Result<DayTable, Fault>
     requires together { AreTogether (A.sketch one.now) (B.sketch other.now) begin settled period }
     requires low { earliest_near ≤ℤ begin }
     requires high { (settled +ℤ pos period) ≤ℤ latest_near }
@@ -152,7 +152,7 @@ fn combined_days<A: DaySeq, B: DaySeq>(
     match numbers_of_days(alloc, op, kind, one, other, begin, days) {
         Err(fault) => Err(fault),
         Ok(days) => {
-            let folded = sequence_of_numbers(
+            let day_table = sequence_of_numbers(
                 alloc,
                 kind,
                 begin,
@@ -161,7 +161,7 @@ fn combined_days<A: DaySeq, B: DaySeq>(
                 days.numbers,
                 days.shapes,
             )?;
-            Ok(folded)
+            Ok(day_table)
         }
     }
 }
@@ -199,7 +199,7 @@ fn sequence_of_both<A: DaySeq, B: DaySeq>(
     kind: Kind,
     one: &A,
     other: &B,
-) -> Result<Folded, Fault>
+) -> Result<DayTable, Fault>
     requires cycle { lcm (A.sketch one.now).period (B.sketch other.now).period ≤ MAX_CYCLE_DAYS }
     requires one_near { EndsNear (A.sketch one.now) (B.sketch other.now)
         (A.sketch one.now).settled }
@@ -219,7 +219,7 @@ fn sequence_of_both<A: DaySeq, B: DaySeq>(
 }
 
 // What is made of a set and itself: the same set, or nothing.
-fn with_itself<A: DaySeq>(alloc: Global, op: Op, one: &A) -> Result<Folded, Fault>
+fn with_itself<A: DaySeq>(alloc: Global, op: Op, one: &A) -> Result<DayTable, Fault>
     requires cycle { (A.sketch one.now).period ≤ MAX_CYCLE_DAYS }
     requires near { ((A.sketch one.now).settled +ℤ pos (A.sketch one.now).period) ≤ℤ latest_near }
     ensures stands { IfOk result
@@ -230,7 +230,7 @@ fn with_itself<A: DaySeq>(alloc: Global, op: Op, one: &A) -> Result<Folded, Faul
 }
 
 // The union of two sets of different kinds: the one that is not empty.
-fn union_apart<A: DaySeq, B: DaySeq>(alloc: Global, one: &A, other: &B) -> Result<Folded, Fault>
+fn union_apart<A: DaySeq, B: DaySeq>(alloc: Global, one: &A, other: &B) -> Result<DayTable, Fault>
     requires apart { (A.sketch one.now).kind ≢ (B.sketch other.now).kind }
     requires cycle { (A.sketch one.now).period ≤ MAX_CYCLE_DAYS }
     requires near { ((A.sketch one.now).settled +ℤ pos (A.sketch one.now).period) ≤ℤ latest_near }

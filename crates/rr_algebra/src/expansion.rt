@@ -8,7 +8,7 @@ ghost use Rattle.rr_algebra.specs.Expanded.{HasSets, IsEndlessExpanded, IsExpand
 use crate::dense::numbers_of;
 use crate::parts::{EndingRead, PartsRead};
 use crate::runs::Run;
-use rr_days::{Folded, days_between, sequence_of_numbers};
+use rr_days::{DayTable, days_between, sequence_of_numbers};
 use rr_model::{FIRST_DAY, Fault, Kind, MAX_CYCLE_DAYS, NoMemory, Refusal};
 use rr_shapes::Shapes;
 use std::alloc::Global;
@@ -49,7 +49,7 @@ fn finite_sequence(
     count: usize,
     first: i64,
     before: &[Run],
-) -> Result<Folded, Fault>
+) -> Result<DayTable, Fault>
     requires first { IsReadDay first }
     requires sets { HasSets kind count shapes }
     ensures expanded { IfOk result
@@ -63,7 +63,7 @@ fn finite_sequence(
     };
     let days = numbers.len();
     fill_up(&mut numbers, days + 1)?;
-    let folded = sequence_of_numbers(
+    let day_table = sequence_of_numbers(
         alloc,
         kind,
         first,
@@ -72,7 +72,7 @@ fn finite_sequence(
         numbers,
         shapes,
     )?;
-    Ok(folded)
+    Ok(day_table)
 }
 
 // Whether a period may be read.
@@ -134,7 +134,7 @@ fn endless_sequence(
     first: i64,
     before: &[Run],
     ending: &EndingRead,
-) -> Result<Folded, Fault>
+) -> Result<DayTable, Fault>
     requires first { IsReadDay first }
     requires sets { HasSets kind count shapes }
     ensures expanded { IfOk result (λ f. IsEndlessExpanded kind count shapes first before.now
@@ -157,7 +157,7 @@ fn endless_sequence(
         Ok(numbers) => numbers,
         Err(fault) => return Err(fault),
     };
-    let folded = sequence_of_numbers(
+    let day_table = sequence_of_numbers(
         alloc,
         kind,
         first,
@@ -166,7 +166,7 @@ fn endless_sequence(
         numbers,
         shapes,
     )?;
-    Ok(folded)
+    Ok(day_table)
 }
 
 /// The sequence of the days that a descriptor states. `NotCanonical` comes if a day does not lie in its place or within
@@ -177,7 +177,7 @@ pub fn sequence_of_parts(
     shapes: Shapes,
     count: usize,
     parts: &PartsRead,
-) -> Result<Folded, Fault>
+) -> Result<DayTable, Fault>
     requires sets { HasSets kind count shapes }
     ensures expanded { IfOk result
         (λ f. IsExpanded kind count shapes (parts_in parts.now) (sketch f)) }

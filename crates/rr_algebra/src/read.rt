@@ -18,15 +18,15 @@ use crate::parts::take_parts;
 use crate::runs::begins_with;
 use crate::sets::take_sets;
 use rr_canon::{LeastSeq, Version, describe_in, least};
-use rr_days::{Folded, sequence_of_numbers};
+use rr_days::{DayTable, sequence_of_numbers};
 use rr_model::{Fault, Kind, MAX_CYCLE_DAYS, NoMemory, Refusal};
+use rr_periodic::DaySeq;
 use rr_shapes::Shapes;
 use rr_text::without_mark;
-use rr_word::DaySeq;
 use std::alloc::Global;
 
 /// The set of occurrences that a canonical text states. Its sketch is the one of which the text was printed.
-pub type Described = Folded;
+pub type Described = DayTable;
 
 // What follows the first `count` bytes.
 fn after_bytes(text: &[u8], count: usize) -> &[u8]
@@ -73,18 +73,18 @@ fn take_kind_sets<'a>(
 }
 
 // The sequence of the empty set.
-fn empty_sequence(alloc: Global) -> Result<Folded, NoMemory>
+fn empty_sequence(alloc: Global) -> Result<DayTable, NoMemory>
     ensures days { IfOk result (λ f. sketch f ≡ sketch_described None) }
 {
     let shapes = Shapes::with_empty_set(alloc)?;
     let mut numbers = Vec::new(alloc);
     fill_up(&mut numbers, 1)?;
-    let folded = sequence_of_numbers(alloc, Kind::Days, 0, 0, 1, numbers, shapes)?;
-    Ok(folded)
+    let day_table = sequence_of_numbers(alloc, Kind::Days, 0, 0, 1, numbers, shapes)?;
+    Ok(day_table)
 }
 
 // The sequence that the lines after the first one state.
-fn read_days(alloc: Global, body: &[u8]) -> Result<Folded, Fault>
+fn read_days(alloc: Global, body: &[u8]) -> Result<DayTable, Fault>
     ensures days { IfOk result (λ f. IsStated body.now (sketch f)) }
     ensures refused { RefusedWhereNotStated body.now result }
 {
@@ -158,7 +158,7 @@ fn is_text_of(alloc: Global, text: &[u8], least: &LeastSeq) -> Result<bool, NoMe
 }
 
 // Whether a text is a descriptor, if its lines state these days.
-fn is_descriptor(alloc: Global, text: &[u8], days: &Folded) -> Result<bool, NoMemory>
+fn is_descriptor(alloc: Global, text: &[u8], days: &DayTable) -> Result<bool, NoMemory>
     requires { IsStated (drop 10 text.now) (sketch days.now) }
     ensures yes { IfOk result (λ is. IsTrue is → IsDescriptor text.now (sketch days.now)) }
     ensures no { IfOk result (λ is. is ≡ false → HasNoDescriptor text.now) }

@@ -1,8 +1,8 @@
--- What is read and folded of a canonical text.
+-- What is read and tabulated of a canonical text.
 use Rattle.std.proofs.Common.{ℕ, ◌<◌, ◌≤◌, ℤ, List, length, Option, refl}
 use Rattle.std.specs.Prelude.{Result, Ok, Err, IfErr}
 use Rattle.rr_algebra.specs.Stated.{HasNoDescriptor, IsDescriptor}
-use Rattle.rr_fold.specs.Judged.{all_limits}
+use Rattle.rr_tabulate.specs.Judged.{all_limits}
 use Rattle.rr_model.specs.Answers.{RefusedExactlyWhere}
 use Rattle.rr_model.specs.Text.Lines.{without_mark}
 use Rattle.rr_model.specs.declared.limits.TheConstants.{MAX_INPUT}
@@ -11,7 +11,7 @@ use Rattle.rr_model.specs.declared.refusal.Fault.TheVariants.{NoMemory, Refused}
 use Rattle.rr_model.specs.declared.refusal.Refusal.{Refusal}
 use Rattle.rr_model.specs.declared.refusal.Refusal.TheVariants.{NotCanonical, TooLong}
 use Rattle.rr_model.specs.declared.sketch.Sketch.{Sketch}
-use Rattle.rr_answer.specs.Folding.{IsFoldedFrom}
+use Rattle.rr_answer.specs.Tabulation.{IsTabulatedFrom}
 use Rattle.rr_answer.specs.Judgement.{IsFault}
 use Rattle.rr_answer.specs.OperandReading.{IsDescriptorRead, IsTextRead}
 use Rattle.rr_answer.specs.Subjects.{Subject, of_sketch}
@@ -31,11 +31,11 @@ module _ (offset : Option ℤ) (bytes : List ℕ) (few : length bytes ≤ MAX_IN
   read_so : (r : Result Subject Refusal) → IsDescriptorRead (without_mark bytes) r → IsTextRead (Days Canon) offset bytes r
   read_so r h = read_within (Days Canon) offset bytes few r h
 
-  pub descriptor_folds : (s : Sketch) → IsDescriptor (without_mark bytes) s → IsFoldedFrom (IsTextRead (Days Canon) offset bytes) s
-  descriptor_folds s p = record {
+  pub descriptor_tabulated : (s : Sketch) → IsDescriptor (without_mark bytes) s → IsTabulatedFrom (IsTextRead (Days Canon) offset bytes) s
+  descriptor_tabulated s p = record {
     subject = of_sketch s;
     judged = record { read = Ok (of_sketch s); is_read = read_so (Ok (of_sketch s)) p; is_judged = (refl, refl) };
-    fold = record {
+    table = record {
       from_year_one = from_year_one (without_mark bytes) s p;
       stands = λ k t. ((λ h. h), (λ h. h));
       period = refl;

@@ -18,35 +18,35 @@ use Rattle.rr_overlap.specs.declared.clash.Clash.{Clash}
 use Rattle.rr_overlap.specs.declared.clash.Clash.TheVariants.{Yes, No}
 use Rattle.rr_overlap.proofs.OneLemmas.{clash_same}
 use Rattle.rr_answer.specs.Clashes.{IsClashSaid, IsPrintableClash, clash_said}
-use Rattle.rr_answer.specs.Folding.{IsFoldOf, IsFromYearOneOn}
+use Rattle.rr_answer.specs.Tabulation.{IsDayTableOf, IsFromYearOneOn}
 use Rattle.rr_answer.specs.Said.{Answer, answer_of_refusal}
 use Rattle.rr_answer.specs.Subjects.{OccursIn, Subject, kind_of}
 use Rattle.rr_answer.specs.Verdicts.{IsSaidOfBoth, IsTooLate}
 use Rattle.rr_answer.specs.declared.command.Inquiry.TheVariants.{Clash as AskClash}
 use Rattle.rr_answer.proofs.SaidOfBothLemmas.{periods, printable_at, too_late_said}
 
-module _ (s u : Subject) (of_s of_u : Sketch) (fold : IsFoldOf s of_s) (fold' : IsFoldOf u of_u) where
+module _ (s u : Subject) (of_s of_u : Sketch) (table : IsDayTableOf s of_s) (table' : IsDayTableOf u of_u) where
   -- from the sketches to their subjects
   pub clash_is_said :
       (d e : ℕ) (k l : Kind) (clash : Clash) (answer : Answer) → k ≡ of_s.kind → l ≡ of_u.kind
       → IsClashVerdict (StandsIn of_s) d (StandsIn of_u) e of_s.kind of_u.kind clash → answer ≡ clash_said k l clash → IsClashSaid d e s u answer
   clash_is_said d e k l clash answer ek el h is =
-      let kept = clash_same (StandsIn of_s) (StandsIn of_u) (OccursIn s) (OccursIn u) d e of_s.kind of_u.kind clash fold.stands fold'.stands h in
+      let kept = clash_same (StandsIn of_s) (StandsIn of_u) (OccursIn s) (OccursIn u) d e of_s.kind of_u.kind clash table.stands table'.stands h in
       let first : IsClashVerdict (OccursIn s) d (OccursIn u) e (kind_of s) of_u.kind clash =
-      subst (λ (x : Kind). IsClashVerdict (OccursIn s) d (OccursIn u) e x of_u.kind clash) fold.kind kept in
+      subst (λ (x : Kind). IsClashVerdict (OccursIn s) d (OccursIn u) e x of_u.kind clash) table.kind kept in
       let both : IsClashVerdict (OccursIn s) d (OccursIn u) e (kind_of s) (kind_of u) clash =
-      subst (λ (x : Kind). IsClashVerdict (OccursIn s) d (OccursIn u) e (kind_of s) x clash) fold'.kind first in
+      subst (λ (x : Kind). IsClashVerdict (OccursIn s) d (OccursIn u) e (kind_of s) x clash) table'.kind first in
       record {
         clash = clash;
         is_clash = both;
-        is_said = is ∙ ap (λ (x : Kind). clash_said x l clash) (ek ∙ fold.kind) ∙ ap (λ (x : Kind). clash_said (kind_of s) x clash) (el ∙ fold'.kind);
+        is_said = is ∙ ap (λ (x : Kind). clash_said x l clash) (ek ∙ table.kind) ∙ ap (λ (x : Kind). clash_said (kind_of s) x clash) (el ∙ table'.kind);
       }
 
   pub clash_of_both : (d e : ℕ) (answer : Answer) → lcm of_s.period of_u.period ≤ MAX_CYCLE_DAYS → IsClashSaid d e s u answer
       → IsSaidOfBoth (AskClash d e) s u answer
   clash_of_both d e answer few h =
       let early : IsTooLate (AskClash d e) (lcm of_s.period of_u.period) → ⊥ = λ late. omega (arith, late, few) in
-      inr (subst (λ (days : ℕ). IsTooLate (AskClash d e) days → ⊥) (periods s u of_s of_u fold fold') early, h)
+      inr (subst (λ (days : ℕ). IsTooLate (AskClash d e) days → ⊥) (periods s u of_s of_u table table') early, h)
 
   pub clash_too_late :
       (d e : ℕ) (answer : Answer) → (lcm of_s.period of_u.period ≤ MAX_CYCLE_DAYS → ⊥) → answer ≡ answer_of_refusal Both CycleTooLong
@@ -54,7 +54,7 @@ module _ (s u : Subject) (of_s of_u : Sketch) (fold : IsFoldOf s of_s) (fold' : 
   clash_too_late d e answer many is =
       let late : IsTooLate (AskClash d e) (lcm of_s.period of_u.period) =
       elim (cases_lt 16_777_216 (lcm of_s.period of_u.period)) [ inl m ↦ omega (arith, m) | inr m ↦ absurd (many m) ] in
-      too_late_said s u of_s of_u fold fold' (AskClash d e) answer late is
+      too_late_said s u of_s of_u table table' (AskClash d e) answer late is
 
 -- ---- it can be printed
 

@@ -17,10 +17,10 @@ use Rattle.rr_model.specs.declared.kind.Kind.{Kind}
 use Rattle.rr_model.specs.declared.kind.Kind.TheVariants.{Days, Moments}
 use Rattle.rr_model.specs.declared.sketch.Sketch.{Sketch}
 use Rattle.rr_model.proofs.MomentLemmas.{parts_of_moment}
-use Rattle.rr_word.proofs.SketchLemmas.{second_fits}
+use Rattle.rr_periodic.proofs.SketchLemmas.{second_fits}
 use Rattle.rr_answer.specs.Combined.{HasTooManySeconds, HaveTwoKinds, IsMixed, IsTimeSetOf, OccursAt}
 use Rattle.rr_model.specs.Moment.Years.{OccurFromYearOne}
-use Rattle.rr_answer.specs.Folding.{IsFromYearOneOn}
+use Rattle.rr_answer.specs.Tabulation.{IsFromYearOneOn}
 
 -- ---- a second of a day
 

@@ -12,7 +12,7 @@ use Rattle.rr_model.specs.Moment.{day_part, second_part}
 use Rattle.rr_model.specs.Sets.Printable.{TellsSetsApart}
 use Rattle.rr_model.specs.Sets.Sketch.{StandsIn}
 use Rattle.rr_model.specs.declared.sketch.Sketch.{Sketch}
-use Rattle.rr_word.proofs.OneLeastLemmas.{one_least}
+use Rattle.rr_periodic.proofs.OneLeastLemmas.{one_least}
 use Rattle.rr_model.specs.Moment.Years.{OccurFromYearOne}
 use Rattle.rr_model.proofs.RisingSetLemmas.{Contains-none}
 

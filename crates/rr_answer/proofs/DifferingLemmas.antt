@@ -20,7 +20,7 @@ use Rattle.rr_differ.proofs.OneLemmas.{differences_are_one, equal_names_the_firs
 use Rattle.rr_model.proofs.YearLemmas.{from_year_one}
 use Rattle.rr_text.specs.Printed.{IsPrintableAt}
 use Rattle.rr_answer.specs.Differing.{AreDifferencesSaid, IsBesideVerdict, answer_of_differences, difference_line}
-use Rattle.rr_answer.specs.Folding.{IsFromYearOneOn}
+use Rattle.rr_answer.specs.Tabulation.{IsFromYearOneOn}
 use Rattle.rr_answer.specs.Said.{Answer}
 
 -- ---- lines

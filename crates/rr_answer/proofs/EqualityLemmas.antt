@@ -4,7 +4,7 @@ use Rattle.std.proofs.lemmas.Int.{ints}
 use Rattle.std.specs.Prelude.{Err, Some}
 use Rattle.rr_kinds.specs.Form.{GoesByKinds, NamesNearDay}
 use Rattle.rr_kinds.proofs.LimitLemmas.{no_limit_refuses}
-use Rattle.rr_fold.specs.Judged.{IsFoldJudged, all_limits}
+use Rattle.rr_tabulate.specs.Judged.{IsDayTableJudged, all_limits}
 use Rattle.rr_model.specs.declared.refusal.Fault.{Fault}
 use Rattle.rr_model.specs.declared.refusal.Fault.TheVariants.{NoMemory, Refused}
 use Rattle.rr_model.specs.Sets.Sketch.{StandsFor}
@@ -24,7 +24,7 @@ use Rattle.rr_model.proofs.YearOneLemmas.{occurs_from_year_one}
 use Rattle.rr_text.specs.Printed.{IsPrintable}
 use Rattle.rr_answer.specs.Answer.{IsPairAnswer}
 use Rattle.rr_answer.specs.Command.{Operand, SeriesOperand, as_operand, series_operand, series_operand_named}
-use Rattle.rr_answer.specs.Folding.{IsFoldOf}
+use Rattle.rr_answer.specs.Tabulation.{IsDayTableOf}
 use Rattle.rr_answer.specs.Said.{Answer, answer_of_verdict}
 use Rattle.rr_answer.specs.Judgement.{IsAdmitted, IsFault}
 use Rattle.rr_answer.specs.OperandReading.{IsSeriesRead, IsSubjectRead}
@@ -53,10 +53,10 @@ module _ (a b : Series) where
       → IsSaidOfBoth (Ask Equal) (of_series a) (of_series b) answer
   equal_said v answer is e = inr ((λ late. late), (v, is, e))
 
--- a sketch that stands for a series is its fold
-pub fold_of : (series : Series) (sketch : Sketch) → IsValidSeries series → StandsFor sketch (Occurs series) → sketch.kind ≡ series.kind
-    → sketch.settled ≤ℤ pos 20_000_000 → sketch.period ≡ series_cycle series → IsFoldOf (of_series series) sketch
-fold_of series sketch valid stands kind near period = record {
+-- a sketch that stands for a series is that of its day table
+pub day_table_of : (series : Series) (sketch : Sketch) → IsValidSeries series → StandsFor sketch (Occurs series) → sketch.kind ≡ series.kind
+    → sketch.settled ≤ℤ pos 20_000_000 → sketch.period ≡ series_cycle series → IsDayTableOf (of_series series) sketch
+day_table_of series sketch valid stands kind near period = record {
   from_year_one = λ k t h. occurs_from_year_one series k t valid h;
   stands = stands;
   period = period;
@@ -66,7 +66,7 @@ fold_of series sketch valid stands kind near period = record {
 
 -- a fault by the limits of an admitted series is one of what was read
 pub judged_fault : (X : Type 0) (reads : Reading) (series : Series) (cycle : ℕ) → IsAdmitted reads series cycle → (fault : Fault)
-    → IsFoldJudged {X = X} series (Err fault) → IsFault all_limits reads fault
+    → IsDayTableJudged {X = X} series (Err fault) → IsFault all_limits reads fault
 judged_fault X reads series cycle a (Refused refusal) h = refused_by_limit all_limits reads series cycle a refusal h
 judged_fault X reads series cycle a NoMemory h = tt
 

@@ -1,7 +1,7 @@
 -- What is said of occurrences by their number.
 use Rattle.std.proofs.Common.{◌≡◌, ℕ, ℤ, sym, ap, ◌∙◌, subst}
 use Rattle.std.specs.Prelude.{Ok}
-use Rattle.rr_fold.specs.Judged.{all_limits}
+use Rattle.rr_tabulate.specs.Judged.{all_limits}
 use Rattle.rr_model.specs.Sets.Sketch.{StandsIn}
 use Rattle.rr_model.specs.declared.kind.Kind.{Kind}
 use Rattle.rr_model.specs.declared.sketch.Sketch.{Sketch}
@@ -10,7 +10,7 @@ use Rattle.rr_rank.specs.Rank.{IsNthOf, IsRank, up_to}
 use Rattle.rr_rank.specs.declared.nth.Nth.{Nth}
 use Rattle.rr_rank.specs.declared.nth.Nth.TheVariants.{At, Fewer, Past}
 use Rattle.rr_rank.proofs.OneLemmas.{answer_is_one, count_is_one, nth_same, rank_same}
-use Rattle.rr_answer.specs.Folding.{IsFoldedFrom, IsFromYearOneOn}
+use Rattle.rr_answer.specs.Tabulation.{IsTabulatedFrom, IsFromYearOneOn}
 use Rattle.rr_answer.specs.Numbers.{IsNthSaid, IsPrintableNth, IsRankSaid, nth_said, rank_said}
 use Rattle.rr_answer.specs.Said.{Answer, IsSaidUnder}
 use Rattle.rr_answer.specs.Subjects.{OccursIn, Reading, Subject}
@@ -30,20 +30,20 @@ printable_nth s n Fewer from h = tt
 printable_nth s n Past from h = tt
 
 -- from the sketch to what was read
-pub nth_is_said : (reads : Reading) (s : Sketch) (n : ℕ) (r : Nth) (answer : Answer) → IsFoldedFrom reads s → IsNthOf (StandsIn s) n r
+pub nth_is_said : (reads : Reading) (s : Sketch) (n : ℕ) (r : Nth) (answer : Answer) → IsTabulatedFrom reads s → IsNthOf (StandsIn s) n r
     → answer ≡ nth_said r → IsSaidUnder A all_limits reads (IsNthSaid n) answer
-nth_is_said reads s n r answer folded h e = record {
-  judged = Ok folded.subject;
-  is_judged = folded.judged;
-  is_said = record { nth = r; is_nth = nth_same (StandsIn s) (OccursIn folded.subject) folded.fold.stands n r h; is_said = e };
+nth_is_said reads s n r answer tabulated h e = record {
+  judged = Ok tabulated.subject;
+  is_judged = tabulated.judged;
+  is_said = record { nth = r; is_nth = nth_same (StandsIn s) (OccursIn tabulated.subject) tabulated.table.stands n r h; is_said = e };
 }
 
-pub rank_is_said : (reads : Reading) (s : Sketch) (k : Kind) (t : ℤ) (n : ℕ) (answer : Answer) → IsFoldedFrom reads s
+pub rank_is_said : (reads : Reading) (s : Sketch) (k : Kind) (t : ℤ) (n : ℕ) (answer : Answer) → IsTabulatedFrom reads s
     → IsRank (StandsIn s) k t n → answer ≡ rank_said n → IsSaidUnder A all_limits reads (IsRankSaid k t) answer
-rank_is_said reads s k t n answer folded h e = record {
-  judged = Ok folded.subject;
-  is_judged = folded.judged;
-  is_said = record { rank = n; is_rank = rank_same (StandsIn s) (OccursIn folded.subject) folded.fold.stands k t n h; is_said = e };
+rank_is_said reads s k t n answer tabulated h e = record {
+  judged = Ok tabulated.subject;
+  is_judged = tabulated.judged;
+  is_said = record { rank = n; is_rank = rank_same (StandsIn s) (OccursIn tabulated.subject) tabulated.table.stands k t n h; is_said = e };
 }
 
 -- the number of what is not after a moment, at a moment that is the same

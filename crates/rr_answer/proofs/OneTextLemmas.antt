@@ -1,6 +1,6 @@
 -- What one text states twice.
 use Rattle.std.proofs.Common.{inr, ℕ, List, Result, Ok, refl, subst}
-use Rattle.rr_fold.specs.Judged.{all_limits}
+use Rattle.rr_tabulate.specs.Judged.{all_limits}
 use Rattle.rr_model.specs.declared.refusal.Refusal.{Refusal}
 use Rattle.rr_model.specs.declared.verdict.Verdict.TheVariants.{Yes}
 use Rattle.rr_answer.specs.Answer.{IsPairAnswer}

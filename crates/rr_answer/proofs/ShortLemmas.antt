@@ -2,7 +2,7 @@
 use Rattle.std.proofs.Common.{◌≡◌, inl, inr, ℕ, ◌<◌, ◌≤◌, ℤ, List, Option, Some, None, refl, sym, subst, arith}
 use Rattle.std.specs.Prelude.{Result, Ok, Err}
 use Rattle.std.proofs.lemmas.Bool.{cases_lt}
-use Rattle.rr_fold.specs.Judged.{all_limits}
+use Rattle.rr_tabulate.specs.Judged.{all_limits}
 use Rattle.rr_model.specs.Series.Cycle.{series_cycle}
 use Rattle.rr_model.specs.Series.FirstRefusal.{IsLimitRefusal, IsRefusalOr}
 use Rattle.rr_model.specs.Series.Soundness.{first_refusal}
@@ -15,7 +15,7 @@ use Rattle.rr_skip.specs.Members.{skip_cycle}
 use Rattle.rr_skip.specs.Reading.{reads_rscale}
 use Rattle.rr_skip.specs.declared.series.SkipSeries.{SkipSeries}
 use Rattle.rr_answer.specs.Command.{Operand}
-use Rattle.rr_answer.specs.Folding.{IsFoldedFrom}
+use Rattle.rr_answer.specs.Tabulation.{IsTabulatedFrom}
 use Rattle.rr_answer.specs.Judgement.{IsJudged}
 use Rattle.rr_answer.specs.OperandReading.{AreDaysStatedIn, IsStatedIn, IsSubjectRead, IsTextRead, reads_zoned_rscale, series_in}
 use Rattle.rr_answer.specs.Subjects.{IsSubjectRefusal, Subject, as_skipping, as_subject, cycle_of, of_series, of_sketch, of_skipping}
@@ -82,6 +82,7 @@ module _ (operand : Operand) (bytes : List ℕ) where
   judged_short (Err refusal) subject is_read h = absurd (cc)
   judged_short (Ok other) subject is_read h = subst (λ (x : Subject). cycle_of x ≤ MAX_CYCLE_DAYS) (sym h.0) (subject_short other is_read h.1)
 
-  pub folded_is_short : (s : Sketch) → IsFoldedFrom (IsSubjectRead operand bytes) s → s.period ≤ MAX_CYCLE_DAYS
-  folded_is_short s folded =
-      subst (λ n. n ≤ MAX_CYCLE_DAYS) (sym folded.fold.period) (judged_short folded.judged.read folded.subject folded.judged.is_read folded.judged.is_judged)
+  pub table_is_short : (s : Sketch) → IsTabulatedFrom (IsSubjectRead operand bytes) s → s.period ≤ MAX_CYCLE_DAYS
+  table_is_short s tabulated =
+      subst (λ n. n ≤ MAX_CYCLE_DAYS) (sym tabulated.table.period)
+      (judged_short tabulated.judged.read tabulated.subject tabulated.judged.is_read tabulated.judged.is_judged)

@@ -2,7 +2,7 @@
 use Rattle.std.proofs.Common.{inl, inr, ℕ, List, get_or, All, refl}
 use Rattle.std.specs.Prelude.{Ok}
 use Rattle.std.proofs.lemmas.List.Elements.{Contains-get_or}
-use Rattle.rr_fold.specs.Judged.{all_limits}
+use Rattle.rr_tabulate.specs.Judged.{all_limits}
 use Rattle.rr_graph.specs.Written.{HasPattern}
 use Rattle.rr_model.specs.Moment.{Occurrences}
 use Rattle.rr_model.specs.Sets.Sketch.{StandsIn}
@@ -22,7 +22,7 @@ use Rattle.rr_split.specs.Vcal.{HasNoVcalPlan, IsRuleEvent, IsVcalPlanOf}
 use Rattle.rr_split.specs.declared.split.Plan.{Plan}
 use Rattle.rr_split.specs.declared.vcal.VcalPlan.{VcalPlan}
 use Rattle.rr_text.specs.Printed.{IsPrintableAt}
-use Rattle.rr_answer.specs.Folding.{IsFoldedFrom, IsFromYearOneOn}
+use Rattle.rr_answer.specs.Tabulation.{IsTabulatedFrom, IsFromYearOneOn}
 use Rattle.rr_answer.specs.Said.{Answer, IsDoneOrNotSayable, IsSaidUnder}
 use Rattle.rr_answer.specs.Splitting.{IsPlanText, IsSplitSaid, IsVcalPlanText, IsVcalSplitSaid}
 use Rattle.rr_answer.specs.Subjects.{OccursIn, Reading}
@@ -56,26 +56,26 @@ single_printable s most plan from is i d l =
 
 -- ---- what is said
 
-module _ (reads : Reading) (s : Sketch) (folded : IsFoldedFrom reads s) (most : ℕ) where
-  text_kept : (text : List ℕ) → IsPlanText most (StandsIn s) s text → IsPlanText most (OccursIn folded.subject) s text
+module _ (reads : Reading) (s : Sketch) (tabulated : IsTabulatedFrom reads s) (most : ℕ) where
+  text_kept : (text : List ℕ) → IsPlanText most (StandsIn s) s text → IsPlanText most (OccursIn tabulated.subject) s text
   text_kept text h = record {
     plan = h.plan;
     is_plan = h.is_plan;
-    split = split_same IsPart IsKept (StandsIn s) (OccursIn folded.subject) h.plan.parts.items (IsOneOf h.plan.kind h.plan.single) folded.fold.stands h.split;
+    split = split_same IsPart IsKept (StandsIn s) (OccursIn tabulated.subject) h.plan.parts.items (IsOneOf h.plan.kind h.plan.single) tabulated.table.stands h.split;
     written = h.written;
   }
 
   kept : (answer : Answer) → IsDoneOrNotSayable (IsPlanText most (StandsIn s) s) (IsUnplanned most s) answer
-      → IsDoneOrNotSayable (IsPlanText most (OccursIn folded.subject) s) (IsUnplanned most s) answer
+      → IsDoneOrNotSayable (IsPlanText most (OccursIn tabulated.subject) s) (IsUnplanned most s) answer
   kept answer (inl done) = inl (done.0, text_kept answer.bytes done.1)
   kept answer (inr none) = inr none
 
   pub split_is_said : (answer : Answer) → IsDoneOrNotSayable (IsPlanText most (StandsIn s) s) (IsUnplanned most s) answer
       → IsSaidUnder A all_limits reads (IsSplitSaid most) answer
   split_is_said answer h = record {
-    judged = Ok folded.subject;
-    is_judged = folded.judged;
-    is_said = record { sketch = s; fold = folded.fold; is_said = kept answer h };
+    judged = Ok tabulated.subject;
+    is_judged = tabulated.judged;
+    is_said = record { sketch = s; table = tabulated.table; is_said = kept answer h };
   }
 
 -- ---- of events of vCalendar 1.0
@@ -83,25 +83,25 @@ module _ (reads : Reading) (s : Sketch) (folded : IsFoldedFrom reads s) (most : 
 pub events_valid : (s : Sketch) (most : ℕ) (plan : VcalPlan) → IsVcalPlanOf most s plan → All IsValidVSeries plan.events.items
 events_valid s most plan is k d l = (is.split.each k d l).valid
 
-module _ (reads : Reading) (s : Sketch) (folded : IsFoldedFrom reads s) (most : ℕ) where
-  vcal_text_kept : (text : List ℕ) → IsVcalPlanText most (StandsIn s) s text → IsVcalPlanText most (OccursIn folded.subject) s text
+module _ (reads : Reading) (s : Sketch) (tabulated : IsTabulatedFrom reads s) (most : ℕ) where
+  vcal_text_kept : (text : List ℕ) → IsVcalPlanText most (StandsIn s) s text → IsVcalPlanText most (OccursIn tabulated.subject) s text
   vcal_text_kept text h = record {
     plan = h.plan;
     is_plan = h.is_plan;
-    split = split_same IsRuleEvent OccursInVseries (StandsIn s) (OccursIn folded.subject) h.plan.events.items (IsOneOf h.plan.kind h.plan.single)
-        folded.fold.stands h.split;
+    split = split_same IsRuleEvent OccursInVseries (StandsIn s) (OccursIn tabulated.subject) h.plan.events.items (IsOneOf h.plan.kind h.plan.single)
+        tabulated.table.stands h.split;
     written = h.written;
   }
 
   vcal_kept : (answer : Answer) → IsDoneOrNotSayable (IsVcalPlanText most (StandsIn s) s) (HasNoVcalPlan s) answer
-      → IsDoneOrNotSayable (IsVcalPlanText most (OccursIn folded.subject) s) (HasNoVcalPlan s) answer
+      → IsDoneOrNotSayable (IsVcalPlanText most (OccursIn tabulated.subject) s) (HasNoVcalPlan s) answer
   vcal_kept answer (inl done) = inl (done.0, vcal_text_kept answer.bytes done.1)
   vcal_kept answer (inr none) = inr none
 
   pub vcal_split_is_said : (answer : Answer) → IsDoneOrNotSayable (IsVcalPlanText most (StandsIn s) s) (HasNoVcalPlan s) answer
       → IsSaidUnder A all_limits reads (IsVcalSplitSaid most) answer
   vcal_split_is_said answer h = record {
-    judged = Ok folded.subject;
-    is_judged = folded.judged;
-    is_said = record { sketch = s; fold = folded.fold; is_said = vcal_kept answer h };
+    judged = Ok tabulated.subject;
+    is_judged = tabulated.judged;
+    is_said = record { sketch = s; table = tabulated.table; is_said = vcal_kept answer h };
   }

@@ -4,7 +4,7 @@ use Rattle.std.specs.Prelude.{Ok}
 use Rattle.std.proofs.lemmas.List.{append-nil, get_or-take, length-take-le}
 use Rattle.std.proofs.lemmas.List.Concat.{flat_map-append}
 use Rattle.std.proofs.Math.Seq.{take-suc}
-use Rattle.rr_fold.specs.Judged.{all_limits}
+use Rattle.rr_tabulate.specs.Judged.{all_limits}
 use Rattle.rr_model.specs.Bounds.{latest_taken}
 use Rattle.rr_model.specs.Moment.{day_part}
 use Rattle.rr_model.specs.Sets.Sketch.{StandsIn}
@@ -15,7 +15,7 @@ use Rattle.rr_next.specs.First.{AreFirst}
 use Rattle.rr_next.specs.Window.{between, from_on}
 use Rattle.rr_next.specs.declared.number.Moment.{Moment}
 use Rattle.rr_text.specs.Printed.{IsPrintableAt}
-use Rattle.rr_answer.specs.Folding.{IsFoldedFrom, IsFromYearOneOn}
+use Rattle.rr_answer.specs.Tabulation.{IsTabulatedFrom, IsFromYearOneOn}
 use Rattle.rr_answer.specs.Listing.{ListsFirst, listed_text, occurrence_line}
 use Rattle.rr_answer.specs.Said.{Answer, IsDone, IsSaidUnder}
 use Rattle.rr_answer.specs.Subjects.{OccursIn, Reading, Subject, kind_of}
@@ -123,28 +123,28 @@ module _ (P Q : ℤ → Type 0) (to : (t : ℤ) → P t → Q t) (from : (t : �
     whole = tells_same h.times answer.status h.whole;
   }
 
-module _ (reads : Reading) (s : Sketch) (folded : IsFoldedFrom reads s) where
+module _ (reads : Reading) (s : Sketch) (tabulated : IsTabulatedFrom reads s) where
   abbrev subject : Subject
-  subject = folded.subject
+  subject = tabulated.subject
 
   pub from_is_said : (moment : Moment) (n : ℕ) (answer : Answer)
       → IsDone (ListsFirst (from_on (StandsIn s) moment.kind moment.at s.kind) s.kind n) answer → IsSaidUnder A all_limits reads (IsFromSaid moment n) answer
   from_is_said moment n answer h =
       let same = lists_same (from_on (StandsIn s) moment.kind moment.at s.kind) (from_on (OccursIn subject) moment.kind moment.at s.kind)
-      (λ t p. ((folded.fold.stands s.kind t).0 p.0, p.1)) (λ t p. ((folded.fold.stands s.kind t).1 p.0, p.1)) s.kind n answer.bytes h.1 in
+      (λ t p. ((tabulated.table.stands s.kind t).0 p.0, p.1)) (λ t p. ((tabulated.table.stands s.kind t).1 p.0, p.1)) s.kind n answer.bytes h.1 in
       record {
         judged = Ok subject;
-        is_judged = folded.judged;
-        is_said = (h.0, subst (λ k. ListsFirst (from_on (OccursIn subject) moment.kind moment.at k) k n answer.bytes) folded.fold.kind same);
+        is_judged = tabulated.judged;
+        is_said = (h.0, subst (λ k. ListsFirst (from_on (OccursIn subject) moment.kind moment.at k) k n answer.bytes) tabulated.table.kind same);
       }
 
   pub between_is_said : (from to : Moment) (answer : Answer)
       → IsWindowSaid (between (StandsIn s) from.kind from.at to.kind to.at s.kind) s.kind answer → IsSaidUnder A all_limits reads (IsBetweenSaid from to) answer
   between_is_said from to answer h =
       let same = window_same (between (StandsIn s) from.kind from.at to.kind to.at s.kind) (between (OccursIn subject) from.kind from.at to.kind to.at s.kind)
-      (λ t p. ((folded.fold.stands s.kind t).0 p.0, p.1, p.2)) (λ t p. ((folded.fold.stands s.kind t).1 p.0, p.1, p.2)) s.kind answer h in
+      (λ t p. ((tabulated.table.stands s.kind t).0 p.0, p.1, p.2)) (λ t p. ((tabulated.table.stands s.kind t).1 p.0, p.1, p.2)) s.kind answer h in
       record {
         judged = Ok subject;
-        is_judged = folded.judged;
-        is_said = subst (λ k. IsWindowSaid (between (OccursIn subject) from.kind from.at to.kind to.at k) k answer) folded.fold.kind same;
+        is_judged = tabulated.judged;
+        is_said = subst (λ k. IsWindowSaid (between (OccursIn subject) from.kind from.at to.kind to.at k) k answer) tabulated.table.kind same;
       }

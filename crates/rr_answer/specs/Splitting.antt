@@ -12,7 +12,7 @@ use Rattle.rr_split.specs.Promise.{IsPlanOf, IsUnplanned}
 use Rattle.rr_split.specs.Vcal.{HasNoVcalPlan, IsRuleEvent, IsVcalPlanOf}
 use Rattle.rr_split.specs.declared.split.Plan.{Plan}
 use Rattle.rr_split.specs.declared.vcal.VcalPlan.{VcalPlan}
-use Rattle.rr_answer.specs.Folding.{IsFoldOf}
+use Rattle.rr_answer.specs.Tabulation.{IsDayTableOf}
 use Rattle.rr_answer.specs.Said.{Answer, IsDoneOrNotSayable}
 use Rattle.rr_answer.specs.Subjects.{OccursIn, Subject}
 
@@ -26,7 +26,7 @@ pub record IsPlanText (most : ℕ) (P : Occurrences) (s : Sketch) (text : List �
 -- `split`: the text of a plan of the occurrences, by a sketch that stands for them, or that none is found
 pub record IsSplitSaid (most : ℕ) (subject : Subject) (answer : Answer) : Type 0 where
   pub sketch : Sketch
-  pub fold : IsFoldOf subject sketch
+  pub table : IsDayTableOf subject sketch
   pub is_said : IsDoneOrNotSayable (IsPlanText most (OccursIn subject) sketch) (IsUnplanned most sketch) answer
 
 -- The text of a plan of at most n events of vCalendar 1.0 with a rule each, and one of single dates: together they have exactly the
@@ -40,5 +40,5 @@ pub record IsVcalPlanText (most : ℕ) (P : Occurrences) (s : Sketch) (text : Li
 -- `split` into events of vCalendar 1.0: the text of a plan of the occurrences, by a sketch that stands for them, or that none is found
 pub record IsVcalSplitSaid (most : ℕ) (subject : Subject) (answer : Answer) : Type 0 where
   pub sketch : Sketch
-  pub fold : IsFoldOf subject sketch
+  pub table : IsDayTableOf subject sketch
   pub is_said : IsDoneOrNotSayable (IsVcalPlanText most (OccursIn subject) sketch) (HasNoVcalPlan sketch) answer

@@ -3,21 +3,21 @@ ghost use Rattle.std.specs.Prelude.{◌≡◌, IfOk};
 ghost use Rattle.rr_model.specs.declared.kind.Kind.TheVariants.{Moments};
 ghost use Rattle.rr_days.specs.Sequence.{sketch};
 ghost use Rattle.rr_answer.specs.Clashes.{IsPrintableClash, clash_said, clash_text};
-ghost use Rattle.rr_answer.specs.Folding.{IsFromYearOneOn};
+ghost use Rattle.rr_answer.specs.Tabulation.{IsFromYearOneOn};
 ghost use Rattle.rr_answer.specs.Outcome.{answer_of};
 ghost use Rattle.rr_text.specs.Printed.{IsPrintableAt};
-ghost use Rattle.rr_answer.specs.Verdicts.{IsSaidOfFolds};
+ghost use Rattle.rr_answer.specs.Verdicts.{IsSaidOfDayTables};
 ghost use Rattle.rr_answer.specs.declared.command.Inquiry.TheVariants.{Clash as AskClash};
 
 use crate::conclusion::Conclusion;
 use crate::outcome::{AnswerText, Outcome, outcome_of_refusal};
 use crate::quantities::Duration;
 use crate::verdicts::repeat_together;
-use rr_days::Folded;
+use rr_days::DayTable;
 use rr_model::{Kind, NoMemory, Refusal, Side};
 use rr_overlap::{Clash, clear};
+use rr_periodic::DaySeq;
 use rr_text::push_extended;
-use rr_word::DaySeq;
 use std::alloc::Global;
 
 // A no with the first shared second and the two occurrences.
@@ -71,13 +71,13 @@ fn outcome_of_clash(
 pub fn clash_outcome(
     alloc: Global,
     duration_a: Duration,
-    a: &Folded,
+    a: &DayTable,
     duration_b: Duration,
-    b: &Folded,
+    b: &DayTable,
 ) -> Result<Outcome, NoMemory>
     requires a { IsFromYearOneOn (sketch a.now) }
     requires b { IsFromYearOneOn (sketch b.now) }
-    ensures { IfOk result (λ x. IsSaidOfFolds (AskClash duration_a duration_b)
+    ensures { IfOk result (λ x. IsSaidOfDayTables (AskClash duration_a duration_b)
         (sketch a.now) (sketch b.now) (answer_of x)) }
 {
     let together = repeat_together(a, b);

@@ -5,15 +5,15 @@ ghost use Rattle.rr_differ.specs.Differences.{IsDifference};
 ghost use Rattle.rr_days.specs.Sequence.{sketch};
 ghost use Rattle.rr_text.specs.Printed.{IsPrintableAt};
 ghost use Rattle.rr_answer.specs.Differing.{answer_of_differences, difference_line};
-ghost use Rattle.rr_answer.specs.Folding.{IsFromYearOneOn};
+ghost use Rattle.rr_answer.specs.Tabulation.{IsFromYearOneOn};
 ghost use Rattle.rr_answer.specs.Outcome.{answer_of};
-ghost use Rattle.rr_answer.specs.Verdicts.{IsSaidOfFolds};
+ghost use Rattle.rr_answer.specs.Verdicts.{IsSaidOfDayTables};
 ghost use Rattle.rr_answer.specs.declared.command.Inquiry.TheVariants.{Differences};
 
 use crate::conclusion::Conclusion;
 use crate::outcome::{AnswerText, Outcome};
 use crate::quantities::DifferenceCount;
-use rr_days::Folded;
+use rr_days::DayTable;
 use rr_differ::{Difference, first_differences};
 use rr_model::NoMemory;
 use rr_text::{push_extended, side_text};
@@ -66,15 +66,15 @@ fn outcome_of_differences(alloc: Global, differences: &[Difference]) -> Result<O
 pub fn differences_outcome(
     alloc: Global,
     count: DifferenceCount,
-    a: &Folded,
-    b: &Folded,
+    a: &DayTable,
+    b: &DayTable,
 ) -> Result<Outcome, NoMemory>
     requires a { IsFromYearOneOn (sketch a.now) }
     requires b { IsFromYearOneOn (sketch b.now) }
     requires short_a { (sketch a.now).period ≤ MAX_CYCLE_DAYS }
     requires short_b { (sketch b.now).period ≤ MAX_CYCLE_DAYS }
     ensures { IfOk result
-        (λ x. IsSaidOfFolds (Differences count) (sketch a.now) (sketch b.now) (answer_of x)) }
+        (λ x. IsSaidOfDayTables (Differences count) (sketch a.now) (sketch b.now) (answer_of x)) }
 {
     let differences = first_differences(alloc, a, b, count.get() as usize)?;
     outcome_of_differences(alloc, differences.as_slice())

@@ -8,7 +8,7 @@ ghost use Rattle.rr_answer.specs.Said.{IsSaidUnder};
 ghost use Rattle.rr_answer.specs.Subjects.{of_series};
 ghost use Rattle.rr_answer.specs.Verdicts.{IsSaidOfBoth};
 ghost use Rattle.rr_answer.specs.declared.command.Inquiry.TheVariants.{Verdict as Ask};
-ghost use Rattle.rr_fold.specs.Judged.{IsFoldJudged, all_limits};
+ghost use Rattle.rr_tabulate.specs.Judged.{IsDayTableJudged, all_limits};
 ghost use Rattle.rr_kinds.specs.Form.{GoesByKinds};
 ghost use Rattle.rr_model.specs.Series.Cycle.{series_cycle};
 ghost use Rattle.rr_model.specs.Series.Validity.{IsValidSeries};
@@ -18,14 +18,14 @@ ghost use Rattle.rr_model.specs.declared.verdict.Side.TheVariants.{B};
 
 use crate::admitted::read_admitted;
 use crate::command::{Inquiry, Operand, SeriesOperand};
-use crate::folding::fold_series;
 use crate::outcome::{Outcome, outcome_of_fault, outcome_of_verdict};
 use crate::pairs::is_one_text;
+use crate::tabulation::tabulate_series;
 use crate::verdicts::verdict_outcome;
 use rr_check::Checked;
-use rr_fold::fold;
 use rr_kinds::{equal_by_kinds, goes_by_kinds};
 use rr_model::{Fault, NoMemory, Question, Side, Verdict};
+use rr_tabulate::tabulate;
 use std::alloc::Global;
 
 /// Two operands that state series.
@@ -56,7 +56,7 @@ pub(crate) fn asked_series<'a>(
 
 /// What `equal` says of the bytes of two operands that state series, as `pair_outcome` says it.
 ///
-/// Two endless rules of months or years are compared by kinds of years, and neither is folded.
+/// Two endless rules of months or years are compared by kinds of years, and neither is tabulated.
 pub(crate) fn equal_outcome(
     alloc: Global,
     a: SeriesOperand,
@@ -74,14 +74,14 @@ pub(crate) fn equal_outcome(
     if goes_by_kinds(&of_a) {
         return equal_beside(alloc, &of_a, b, text_b);
     }
-    let days = match fold(alloc, &of_a) {
+    let days = match tabulate(alloc, &of_a) {
         Err(fault) => return outcome_of_fault(alloc, Side::A, fault),
         Ok(days) => days,
     };
     if is_one_text(a.operand(), text_a, b.operand(), text_b) {
         return outcome_of_verdict(alloc, Verdict::Yes);
     }
-    match fold_series(alloc, b, text_b) {
+    match tabulate_series(alloc, b, text_b) {
         Err(fault) => outcome_of_fault(alloc, Side::B, fault),
         Ok(days_b) => verdict_outcome(alloc, Question::Equal, &days, &days_b),
     }
@@ -107,7 +107,7 @@ fn equal_beside(
     if let Some(verdict) = equal_by_kinds(a, &of_b) {
         return outcome_of_verdict(alloc, verdict);
     }
-    match equal_folded(alloc, a, &of_b) {
+    match equal_tabulated(alloc, a, &of_b) {
         Ok(outcome) => Ok(outcome),
         Err(fault) => outcome_of_fault(alloc, Side::B, fault),
     }
@@ -115,18 +115,18 @@ fn equal_beside(
 
 // What `equal` says of a series that goes by kinds of years and another, by their days, or why the other is refused. Since no limit
 // refuses the first, only memory can be lacking there.
-fn equal_folded(alloc: Global, a: &Checked, b: &Checked) -> Result<Outcome, Fault>
+fn equal_tabulated(alloc: Global, a: &Checked, b: &Checked) -> Result<Outcome, Fault>
     requires valid_a { IsValidSeries a.now }
     requires valid_b { IsValidSeries b.now }
     requires few_a { series_cycle a.now ≤ MAX_CYCLE_DAYS }
     requires few_b { series_cycle b.now ≤ MAX_CYCLE_DAYS }
-    ensures judged { IsFoldJudged b.now result }
+    ensures judged { IsDayTableJudged b.now result }
     ensures said { IfOk result (λ x. IsSaidOfBoth (Ask Equal) (of_series a.now) (of_series b.now)
         (answer_of x)) }
 {
-    let Ok(days) = fold(alloc, a) else {
+    let Ok(days) = tabulate(alloc, a) else {
         return Err(Fault::NoMemory);
     };
-    let days_b = fold(alloc, b)?;
+    let days_b = tabulate(alloc, b)?;
     Ok(verdict_outcome(alloc, Question::Equal, &days, &days_b)?)
 }

@@ -10,15 +10,15 @@ ghost use Rattle.rr_answer.specs.declared.command.DayTask.TheVariants.{Nth as As
 
 use crate::command::Operand;
 use crate::conclusion::Conclusion;
-use crate::folding::read_folded;
 use crate::outcome::{AnswerText, Outcome, outcome_of_fault, outcome_of_refusal};
 use crate::quantities::{AskedMoment, OccurrenceNumber};
-use rr_days::Folded;
+use crate::tabulation::read_day_table;
+use rr_days::DayTable;
 use rr_model::{NoMemory, Refusal, Side};
+use rr_periodic::Counted;
 use rr_rank::{Nth, Ranked};
 use rr_steps::Steps;
 use rr_text::push_extended;
-use rr_word::Counted;
 use std::alloc::Global;
 use std::marker::Brand;
 use std::sync::ledger::{Blank, Ledger};
@@ -26,7 +26,7 @@ use std::sync::ledger::{Blank, Ledger};
 // The n-th occurrence. The days that are read are counted in the contract alone.
 fn nth_in<L: Ledger>(
     alloc: Global,
-    days: &Counted<Folded, L>,
+    days: &Counted<DayTable, L>,
     n: OccurrenceNumber,
     steps: &mut Steps<L>,
 ) -> Result<Nth, NoMemory>
@@ -39,7 +39,7 @@ fn nth_in<L: Ledger>(
 // The n-th occurrence of days that are not needed any more.
 fn nth_of<L: Ledger>(
     alloc: Global,
-    days: Folded,
+    days: DayTable,
     n: OccurrenceNumber,
     blank: Blank,
 ) -> Result<Nth, NoMemory>
@@ -59,7 +59,7 @@ fn nth_of<L: Ledger>(
 // How many occurrences are not after a moment. The days that are read are counted in the contract alone.
 fn rank_in<L: Ledger>(
     alloc: Global,
-    days: &Counted<Folded, L>,
+    days: &Counted<DayTable, L>,
     moment: AskedMoment,
     steps: &mut Steps<L>,
 ) -> Result<u64, NoMemory>
@@ -73,7 +73,7 @@ fn rank_in<L: Ledger>(
 // How many occurrences are not after a moment, of days that are not needed any more.
 fn rank_of<L: Ledger>(
     alloc: Global,
-    days: Folded,
+    days: DayTable,
     moment: AskedMoment,
     blank: Blank,
 ) -> Result<u64, NoMemory>
@@ -122,7 +122,7 @@ pub fn nth_outcome(
 ) -> Result<Outcome, NoMemory>
     ensures { IfOk result (AnswersDays (AskNth n) operand.entry bytes.now) }
 {
-    match read_folded(alloc, operand, bytes) {
+    match read_day_table(alloc, operand, bytes) {
         Err(fault) => outcome_of_fault(alloc, Side::A, fault),
         Ok(days) => outcome_of_nth(alloc, nth_of::<Brand>(alloc, days, n, Blank::new(1))?),
     }
@@ -148,7 +148,7 @@ pub fn rank_outcome(
 ) -> Result<Outcome, NoMemory>
     ensures { IfOk result (AnswersDays (AskRank moment) operand.entry bytes.now) }
 {
-    match read_folded(alloc, operand, bytes) {
+    match read_day_table(alloc, operand, bytes) {
         Err(fault) => outcome_of_fault(alloc, Side::A, fault),
         Ok(days) => outcome_of_rank(alloc, rank_of::<Brand>(alloc, days, moment, Blank::new(1))?),
     }

@@ -4,11 +4,11 @@ ghost use Rattle.rr_model.specs.declared.question.Question.TheVariants.{Equal};
 ghost use Rattle.rr_model.specs.declared.limits.TheConstants.{MAX_CYCLE_DAYS};
 ghost use Rattle.rr_days.specs.Sequence.{sketch};
 ghost use Rattle.rr_answer.specs.Answer.{IsPairAnswer, IsSaidBeside};
-ghost use Rattle.rr_answer.specs.Folding.{IsFromYearOneOn};
+ghost use Rattle.rr_answer.specs.Tabulation.{IsFromYearOneOn};
 ghost use Rattle.rr_answer.specs.OperandReading.{HaveOneText};
 ghost use Rattle.rr_answer.specs.Outcome.{answer_of};
 ghost use Rattle.rr_answer.specs.Parsed.{IsReadOf, operand_in};
-ghost use Rattle.rr_answer.specs.Verdicts.{IsSaidOfFolds};
+ghost use Rattle.rr_answer.specs.Verdicts.{IsSaidOfDayTables};
 ghost use Rattle.rr_answer.specs.declared.command.Inquiry.TheVariants.{Verdict as Ask};
 
 use crate::clashes::clash_outcome;
@@ -16,10 +16,10 @@ use crate::combining::combined_outcome;
 use crate::command::{Inquiry, Operand};
 use crate::differing::differences_outcome;
 use crate::equality::{asked_series, equal_outcome};
-use crate::folding::read_folded;
 use crate::outcome::{Outcome, outcome_of_fault, outcome_of_verdict};
+use crate::tabulation::read_day_table;
 use crate::verdicts::verdict_outcome;
-use rr_days::Folded;
+use rr_days::DayTable;
 use rr_model::{NoMemory, Question, Side, Verdict};
 use std::alloc::Global;
 
@@ -28,8 +28,8 @@ use std::alloc::Global;
 fn said_of_both(
     alloc: Global,
     inquiry: Inquiry,
-    a: &Folded,
-    b: &Folded,
+    a: &DayTable,
+    b: &DayTable,
 ) -> Result<Outcome, NoMemory>
     requires a { IsFromYearOneOn (sketch a.now) }
     requires b { IsFromYearOneOn (sketch b.now) }
@@ -37,7 +37,7 @@ fn said_of_both(
     requires short_b { (sketch b.now).period ≤ MAX_CYCLE_DAYS }
     requires near_a { (sketch a.now).settled ≤ℤ pos 40_000_000 }
     requires near_b { (sketch b.now).settled ≤ℤ pos 40_000_000 }
-    ensures { IfOk result (λ x. IsSaidOfFolds inquiry (sketch a.now) (sketch b.now) (answer_of x)) }
+    ensures { IfOk result (λ x. IsSaidOfDayTables inquiry (sketch a.now) (sketch b.now) (answer_of x)) }
 {
     match inquiry {
         Inquiry::Verdict(question) => verdict_outcome(alloc, question, a, b),
@@ -52,11 +52,11 @@ fn said_of_both(
 
 /// What is said of the days of A and the bytes of B: the refusal of B, otherwise what is asked of both.
 ///
-/// So who asks the same of one A and many B's folds A once.
+/// So who asks the same of one A and many B's tabulates A once.
 pub fn outcome_beside(
     alloc: Global,
     inquiry: Inquiry,
-    a: &Folded,
+    a: &DayTable,
     b: Operand,
     text_b: &[u8],
 ) -> Result<Outcome, NoMemory>
@@ -66,7 +66,7 @@ pub fn outcome_beside(
     ensures { IfOk result
         (λ x. IsSaidBeside inquiry (sketch a.now) (IsReadOf b.entry text_b.now) (answer_of x)) }
 {
-    match read_folded(alloc, b, text_b) {
+    match read_day_table(alloc, b, text_b) {
         Err(fault) => outcome_of_fault(alloc, Side::B, fault),
         Ok(of_b) => said_of_both(alloc, inquiry, a, &of_b),
     }
@@ -94,7 +94,7 @@ fn asks_of_itself(inquiry: &Inquiry, a: Operand, text_a: &[u8], b: Operand, text
 /// What is said of the bytes of two operands: the refusal of A, otherwise that of B, otherwise that of both, otherwise what is
 /// asked of them.
 ///
-/// B is not read if A is refused, or if equality is asked of one text twice and A is folded.
+/// B is not read if A is refused, or if equality is asked of one text twice and A is tabulated.
 pub fn pair_outcome(
     alloc: Global,
     inquiry: Inquiry,
@@ -109,7 +109,7 @@ pub fn pair_outcome(
     if let Some(series) = asked_series(inquiry, a, b) {
         return equal_outcome(alloc, series.a, text_a, series.b, text_b);
     }
-    let of_a = match read_folded(alloc, a, text_a) {
+    let of_a = match read_day_table(alloc, a, text_a) {
         Err(fault) => return outcome_of_fault(alloc, Side::A, fault),
         Ok(days) => days,
     };

@@ -4,7 +4,7 @@ ghost use Rattle.rr_model.specs.Sets.Sketch.{StandsIn};
 ghost use Rattle.rr_days.specs.Sequence.{sketch};
 ghost use Rattle.rr_split.specs.Promise.{IsUnplanned};
 ghost use Rattle.rr_split.specs.Vcal.{HasNoVcalPlan};
-ghost use Rattle.rr_answer.specs.Folding.{IsFromYearOneOn};
+ghost use Rattle.rr_answer.specs.Tabulation.{IsFromYearOneOn};
 ghost use Rattle.rr_answer.specs.Outcome.{answer_of};
 ghost use Rattle.rr_answer.specs.Said.{IsDoneOrNotSayable};
 ghost use Rattle.rr_answer.specs.Splitting.{IsPlanText, IsVcalPlanText};
@@ -13,17 +13,17 @@ ghost use Rattle.rr_answer.specs.declared.command.DayTask.TheVariants.{Split, Sp
 
 use crate::command::Operand;
 use crate::conclusion::Conclusion;
-use crate::folding::read_folded;
 use crate::outcome::{AnswerText, Outcome, outcome_of_fault, outcome_of_refusal};
 use crate::quantities::SplitCount;
-use rr_days::Folded;
+use crate::tabulation::read_day_table;
+use rr_days::DayTable;
 use rr_model::{NoMemory, Refusal, Side};
 use rr_plan_text::{write_plan, write_vcal_plan};
 use rr_split::{search, search_vcal};
 use std::alloc::Global;
 
 // The text of a plan of days, or that none is found.
-fn outcome_of_days(alloc: Global, days: Folded, most: SplitCount) -> Result<Outcome, NoMemory>
+fn outcome_of_days(alloc: Global, days: DayTable, most: SplitCount) -> Result<Outcome, NoMemory>
     requires { IsFromYearOneOn (sketch days) }
     ensures { IfOk result (λ x. IsDoneOrNotSayable
         (IsPlanText most (StandsIn (sketch days)) (sketch days)) (IsUnplanned most (sketch days))
@@ -51,14 +51,18 @@ pub fn split_outcome(
 ) -> Result<Outcome, NoMemory>
     ensures { IfOk result (AnswersDays (Split most) operand.entry bytes.now) }
 {
-    match read_folded(alloc, operand, bytes) {
+    match read_day_table(alloc, operand, bytes) {
         Err(fault) => outcome_of_fault(alloc, Side::A, fault),
         Ok(days) => outcome_of_days(alloc, days, most),
     }
 }
 
 // The text of a plan of days in events of vCalendar 1.0, or that none is found.
-fn vcal_outcome_of_days(alloc: Global, days: Folded, most: SplitCount) -> Result<Outcome, NoMemory>
+fn vcal_outcome_of_days(
+    alloc: Global,
+    days: DayTable,
+    most: SplitCount,
+) -> Result<Outcome, NoMemory>
     ensures { IfOk result (λ x. IsDoneOrNotSayable
         (IsVcalPlanText most (StandsIn (sketch days)) (sketch days)) (HasNoVcalPlan (sketch days))
         (answer_of x)) }
@@ -85,7 +89,7 @@ pub fn split_vcal_outcome(
 ) -> Result<Outcome, NoMemory>
     ensures { IfOk result (AnswersDays (SplitVcal most) operand.entry bytes.now) }
 {
-    match read_folded(alloc, operand, bytes) {
+    match read_day_table(alloc, operand, bytes) {
         Err(fault) => outcome_of_fault(alloc, Side::A, fault),
         Ok(days) => vcal_outcome_of_days(alloc, days, most),
     }

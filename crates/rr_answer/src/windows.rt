@@ -4,7 +4,7 @@ ghost use Rattle.rr_model.specs.Sets.Sketch.{StandsIn};
 ghost use Rattle.rr_days.specs.Sequence.{sketch};
 ghost use Rattle.rr_next.specs.Window.{between, from_on};
 ghost use Rattle.rr_text.specs.Printed.{IsPrintableAt};
-ghost use Rattle.rr_answer.specs.Folding.{IsFromYearOneOn};
+ghost use Rattle.rr_answer.specs.Tabulation.{IsFromYearOneOn};
 ghost use Rattle.rr_answer.specs.Listing.{ListsFirst, listed_text, occurrence_line};
 ghost use Rattle.rr_answer.specs.Outcome.{answer_of};
 ghost use Rattle.rr_answer.specs.Said.{IsDone};
@@ -15,14 +15,14 @@ ghost use Rattle.rr_model.specs.declared.limits.TheConstants.{MAX_CYCLE_DAYS};
 
 use crate::command::Operand;
 use crate::conclusion::Conclusion;
-use crate::folding::read_folded;
 use crate::outcome::{AnswerText, Outcome, outcome_of_fault};
 use crate::quantities::{AskedMoment, ListCount, MAX_LIST};
-use rr_days::Folded;
+use crate::tabulation::read_day_table;
+use rr_days::DayTable;
 use rr_model::{Kind, NoMemory, Side};
 use rr_next::{first_between, first_from};
+use rr_periodic::DaySeq;
 use rr_text::push_extended;
-use rr_word::DaySeq;
 use std::alloc::Global;
 
 // The line of an occurrence.
@@ -50,7 +50,7 @@ fn lines_of(alloc: Global, kind: Kind, times: &[i64]) -> Result<Vec<u8>, NoMemor
 // The first occurrences of days that do not come before a moment, one a line.
 fn outcome_from(
     alloc: Global,
-    days: &Folded,
+    days: &DayTable,
     moment: AskedMoment,
     count: ListCount,
 ) -> Result<Outcome, NoMemory>
@@ -87,7 +87,7 @@ fn outcome_of_times(alloc: Global, kind: Kind, times: &[i64]) -> Result<Outcome,
 // The occurrences of days that do not come before one moment, and come before the other, or the first `MAX_LIST` of them.
 fn outcome_between(
     alloc: Global,
-    days: &Folded,
+    days: &DayTable,
     from: AskedMoment,
     to: AskedMoment,
 ) -> Result<Outcome, NoMemory>
@@ -111,7 +111,7 @@ pub fn from_outcome(
 ) -> Result<Outcome, NoMemory>
     ensures { IfOk result (AnswersDays (AskFrom moment count) operand.entry bytes.now) }
 {
-    match read_folded(alloc, operand, bytes) {
+    match read_day_table(alloc, operand, bytes) {
         Err(fault) => outcome_of_fault(alloc, Side::A, fault),
         Ok(days) => outcome_from(alloc, &days, moment, count),
     }
@@ -130,7 +130,7 @@ pub fn between_outcome(
 ) -> Result<Outcome, NoMemory>
     ensures { IfOk result (AnswersDays (AskBetween from to) operand.entry bytes.now) }
 {
-    match read_folded(alloc, operand, bytes) {
+    match read_day_table(alloc, operand, bytes) {
         Err(fault) => outcome_of_fault(alloc, Side::A, fault),
         Ok(days) => outcome_between(alloc, &days, from, to),
     }

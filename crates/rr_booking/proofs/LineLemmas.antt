@@ -7,7 +7,7 @@ use Rattle.std.proofs.Math.Bool.{or-false}
 use Rattle.rr_model.specs.declared.sketch.Sketch.{Sketch}
 use Rattle.rr_answer.specs.Answer.{IsSaidBeside}
 use Rattle.rr_answer.specs.Command.{Operand}
-use Rattle.rr_answer.specs.Folding.{IsFoldedFrom}
+use Rattle.rr_answer.specs.Tabulation.{IsTabulatedFrom}
 use Rattle.rr_answer.specs.OperandReading.{IsSubjectRead}
 use Rattle.rr_answer.specs.Said.{Answer}
 use Rattle.rr_answer.specs.declared.command.Inquiry.TheVariants.{Clash}
@@ -75,20 +75,20 @@ module _ (duration : ℕ) (a : Sketch) (others : List Other) where
         told.refusal,
   )
 
--- what is said beside the fold of what is read of a text is what is answered to both texts
-module _ (duration : ℕ) (a : Operand) (text : List ℕ) (sketch : Sketch) (folded : IsFoldedFrom (IsSubjectRead a text) sketch) where
+-- what is said beside the day table of what is read of a text is what is answered to both texts
+module _ (duration : ℕ) (a : Operand) (text : List ℕ) (sketch : Sketch) (tabulated : IsTabulatedFrom (IsSubjectRead a text) sketch) where
   pub answers_of_two : (others : List Other) (answers : List Answer) → AreSaidBeside duration sketch others answers
       → AreAnswers duration a text others answers
   answers_of_two [] [] h = tt
   answers_of_two [] (x ∷ answers) h = absurd h
   answers_of_two (other ∷ others) [] h = absurd h
   answers_of_two (other ∷ others) (x ∷ answers) h =
-      (record { judged = Ok folded.subject; is_judged = folded.judged; is_said = h.0 folded.subject folded.fold }, answers_of_two others answers h.1)
+      (record { judged = Ok tabulated.subject; is_judged = tabulated.judged; is_said = h.0 tabulated.subject tabulated.table }, answers_of_two others answers h.1)
 
   pub booking_told : (others : List Other) (answer : Answer) → IsSaidOfAllBeside duration sketch others answer
       → IsBookingSaid (record { duration = duration; candidate = a; others = others }) text answer
   booking_told others answer (answers, are, is) = record {
-    judged = Ok folded.subject;
-    is_judged = folded.judged;
+    judged = Ok tabulated.subject;
+    is_judged = tabulated.judged;
     is_said = (answers, answers_of_two others answers are, is);
   }

@@ -1,6 +1,6 @@
 -- A booking has one answer.
 use Rattle.std.proofs.Common.{◌≡◌, ℕ, List, [], ◌∷◌, Some, None, refl, sym, ap, ◌∙◌}
-use Rattle.rr_fold.specs.Judged.{all_limits}
+use Rattle.rr_tabulate.specs.Judged.{all_limits}
 use Rattle.rr_model.specs.Series.FirstRefusal.{FirstRefusalIsOne}
 use Rattle.rr_model.specs.declared.verdict.Side.TheVariants.{A}
 use Rattle.rr_answer.specs.Answer.{AnswerIsOne}

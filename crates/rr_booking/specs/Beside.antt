@@ -1,4 +1,4 @@
--- What is said of many series beside a candidate that is folded once.
+-- What is said of many series beside a candidate that is tabulated once.
 use Rattle.std.specs.Prelude.{◌≡◌, ⊤, ℕ, List, [], ◌∷◌}
 use Rattle.rr_model.specs.declared.sketch.Sketch.{Sketch}
 use Rattle.rr_answer.specs.Answer.{IsSaidBeside}
@@ -7,7 +7,7 @@ use Rattle.rr_answer.specs.Said.{Answer}
 use Rattle.rr_answer.specs.declared.command.Inquiry.TheVariants.{Clash}
 use Rattle.rr_booking.specs.Booking.{Other, answer_of_all}
 
--- the answers are in order those of `clear` to what the sketch folds and each of the others
+-- the answers are in order those of `clear` to what the sketch is of and each of the others
 abbrev pub AreSaidBeside : ℕ → Sketch → List Other → List Answer → Type 0
 AreSaidBeside duration a [] [] = ⊤
 AreSaidBeside duration a (other ∷ others) (answer ∷ answers) =

@@ -3,7 +3,7 @@ ghost use Rattle.std.specs.Prelude.{◌≡◌, ◌≤◌, IfOk, ◌≤ℤ◌, po
 ghost use Rattle.rr_model.specs.declared.limits.TheConstants.{MAX_CYCLE_DAYS};
 ghost use Rattle.rr_days.specs.Sequence.{sketch};
 ghost use Rattle.rr_answer.specs.Answer.{IsSaidBeside};
-ghost use Rattle.rr_answer.specs.Folding.{IsFromYearOneOn};
+ghost use Rattle.rr_answer.specs.Tabulation.{IsFromYearOneOn};
 ghost use Rattle.rr_answer.specs.OperandReading.{IsSubjectRead};
 ghost use Rattle.rr_answer.specs.Outcome.{answer_of};
 ghost use Rattle.rr_answer.specs.Parsed.{words_of};
@@ -17,9 +17,9 @@ use crate::request::{Booking, Other};
 use crate::tally::Tally;
 use crate::words::{USAGE, parse};
 use rr_answer::{
-    Duration, Inquiry, Outcome, Reply, Status, outcome_beside, outcome_of_fault, read_folded,
+    Duration, Inquiry, Outcome, Reply, Status, outcome_beside, outcome_of_fault, read_day_table,
 };
-use rr_days::Folded;
+use rr_days::DayTable;
 use rr_model::{NoMemory, Side};
 use std::alloc::Global;
 
@@ -47,7 +47,7 @@ fn reply_of(alloc: Global, outcome: Outcome) -> Result<Reply, NoMemory>
 fn said_of(
     alloc: Global,
     duration: Duration,
-    days: &Folded,
+    days: &DayTable,
     other: &Other,
 ) -> Result<Outcome, NoMemory>
     requires years { IsFromYearOneOn (sketch days.now) }
@@ -68,7 +68,7 @@ fn said_of(
 fn said_of_all(
     alloc: Global,
     duration: Duration,
-    days: &Folded,
+    days: &DayTable,
     others: &[Other],
 ) -> Result<Reply, NoMemory>
     requires years { IsFromYearOneOn (sketch days.now) }
@@ -98,7 +98,7 @@ fn said_of_all(
 fn booking_reply(alloc: Global, booking: &Booking, text: &[u8]) -> Result<Reply, NoMemory>
     ensures { IfOk result (λ x. IsBookingSaid (booking_in booking.now) text.now (reply_is x)) }
 {
-    match read_folded(alloc, booking.candidate, text) {
+    match read_day_table(alloc, booking.candidate, text) {
         Err(fault) => reply_of(alloc, outcome_of_fault(alloc, Side::A, fault)?),
         Ok(days) => said_of_all(alloc, booking.duration, &days, booking.others.as_slice()),
     }
@@ -109,7 +109,7 @@ fn booking_reply(alloc: Global, booking: &Booking, text: &[u8]) -> Result<Reply,
 ///
 /// The words are the seconds and the operand of the candidate, then of each of the others its seconds, its operand and how many bytes its text has. For
 /// other words, and if these lengths do not add up to the bytes of the others, the usage line is answered. If the candidate is refused, that is the one
-/// line. The status is No if it clashes with one of the others, otherwise Refused if one is refused, otherwise Yes. The candidate is read and folded once.
+/// line. The status is No if it clashes with one of the others, otherwise Refused if one is refused, otherwise Yes. The candidate is read and tabulated once.
 pub fn answer(
     alloc: Global,
     words: &[&str],

@@ -29,7 +29,7 @@ fn booking_reply(
 ///
 /// The words, in UTF-8, with a zero byte between each two, are the seconds and the operand of the candidate, then of each of the others its seconds, its
 /// operand and how many bytes its text has. The texts of the others stand one behind the other. The names of operands count only in that they are not
-/// empty. The candidate is read and folded once.
+/// empty. The candidate is read and tabulated once.
 ///
 /// It returns 0 if the candidate is clear of all, 1 if it clashes with one, 2 if it clashes with none but it or one of the others is refused, 3 for other
 /// words or if the lengths do not add up to the bytes of the others, 6 out of memory, and 7 for words that are no text. It returns 8 if `out` is too

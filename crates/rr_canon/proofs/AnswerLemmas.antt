@@ -7,7 +7,7 @@ use Rattle.rr_model.specs.Sets.Sketch.{IsValidSketch, IsDaySequence, StandsIn, S
 use Rattle.rr_model.specs.Sets.Verdict.{HaveEqualOccurrences}
 use Rattle.rr_model.specs.declared.kind.Kind.{Kind}
 use Rattle.rr_model.specs.declared.sketch.Sketch.{Sketch}
-use Rattle.rr_word.proofs.SketchLemmas.{second_fits}
+use Rattle.rr_periodic.proofs.SketchLemmas.{second_fits}
 use Rattle.rr_model.specs.Sets.Least.{IsLeastSketch}
 use Rattle.rr_model.specs.Sets.Printable.{HasNoneBeforeYearOne, IsTextOf}
 use Rattle.rr_model.proofs.SecondsLemmas.{first_of_some}

@@ -6,7 +6,7 @@ use Rattle.std.proofs.Math.Seq.{take-suc, drop-cons}
 use Rattle.rr_model.specs.Sets.Descriptor.{Run, Step, with_step, runs_of}
 use Rattle.rr_model.specs.Sets.DescriptorText.{text_of_lines, run_line, ending_lines, fields}
 use Rattle.rr_model.specs.Text.Moments.{extended_date_text}
-use Rattle.rr_word.specs.declared.numbered.NumberedDay.{NumberedDay}
+use Rattle.rr_periodic.specs.declared.numbered.NumberedDay.{NumberedDay}
 use Rattle.rr_canon.specs.Dates.{first_text, settled_text}
 use Rattle.rr_canon.specs.Said.{steps_by_number, with_run, text_of_runs, IsNextRun, ending_said, first_in}
 use Rattle.rr_canon.proofs.LineLemmas.{text_of_lines-append}

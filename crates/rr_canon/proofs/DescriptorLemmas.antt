@@ -10,9 +10,9 @@ use Rattle.rr_model.specs.declared.sketch.Sketch.{Sketch}
 use Rattle.rr_model.specs.Sets.Descriptor.{Step, Run, Described, steps_from, is_run_of, with_step, runs_of, sets_of, ending_of, description_of, descriptor}
 use Rattle.rr_model.specs.Sets.Reading.{steps_of_runs}
 use Rattle.rr_model.specs.Sets.Least.{IsLeastOfFinite, IsLeastOfEndless, IsEndless}
-use Rattle.rr_word.proofs.OneLeastLemmas.{before_part, finite_end}
-use Rattle.rr_word.proofs.SetNumberLemmas.{IsKnown, all_known}
-use Rattle.rr_word.proofs.ShapeLemmas.{not_nil}
+use Rattle.rr_periodic.proofs.OneLeastLemmas.{before_part, finite_end}
+use Rattle.rr_periodic.proofs.SetNumberLemmas.{IsKnown, all_known}
+use Rattle.rr_periodic.proofs.ShapeLemmas.{not_nil}
 use Rattle.rr_canon.proofs.SplittingLemmas.{first_same}
 
 -- ---- runs are their steps

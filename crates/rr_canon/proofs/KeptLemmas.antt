@@ -18,16 +18,16 @@ use Rattle.rr_model.proofs.RisingSetLemmas.{Contains-none}
 use Rattle.rr_model.specs.Sets.Descriptor.{with_sets_of}
 use Rattle.rr_model.specs.Sets.Least.{IsLeastPeriod, IsLeastStart, IsLeastOfNone, IsLeastSketch}
 use Rattle.rr_model.specs.Sets.Occupied.{day_shapes}
-use Rattle.rr_word.proofs.OccupiedLemmas.{sketch_from, sketch_from_bounded, sketch_from_first, sketch_from_least, sketch_from_times, occupied_rises}
-use Rattle.rr_word.proofs.OccupiedLemmas.{equal_by_times}
-use Rattle.rr_word.proofs.OneLeastLemmas.{none_on}
-use Rattle.rr_word.proofs.SetNumberLemmas.{IsKnown, all_known, All-front, All-back}
-use Rattle.rr_word.specs.Stretches.{IsStretch}
-use Rattle.rr_word.specs.Numbered.{number_in, numbered_days, shapes_of}
-use Rattle.rr_word.specs.declared.numbered.NumberedDay.{NumberedDay}
-use Rattle.rr_word.proofs.NumberedLemmas.{times_of, times_by_number, AllKnown, shapes_of-numbered, numbered_stays_of, numbers_within, with_sets_of-append}
-use Rattle.rr_word.specs.Bounded.{IsBounded}
-use Rattle.rr_word.proofs.SketchLemmas.{rising_from}
+use Rattle.rr_periodic.proofs.OccupiedLemmas.{sketch_from, sketch_from_bounded, sketch_from_first, sketch_from_least, sketch_from_times, occupied_rises}
+use Rattle.rr_periodic.proofs.OccupiedLemmas.{equal_by_times}
+use Rattle.rr_periodic.proofs.OneLeastLemmas.{none_on}
+use Rattle.rr_periodic.proofs.SetNumberLemmas.{IsKnown, all_known, All-front, All-back}
+use Rattle.rr_periodic.specs.Stretches.{IsStretch}
+use Rattle.rr_periodic.specs.Numbered.{number_in, numbered_days, shapes_of}
+use Rattle.rr_periodic.specs.declared.numbered.NumberedDay.{NumberedDay}
+use Rattle.rr_periodic.proofs.NumberedLemmas.{times_of, times_by_number, AllKnown, shapes_of-numbered, numbered_stays_of, numbers_within, with_sets_of-append}
+use Rattle.rr_periodic.specs.Bounded.{IsBounded}
+use Rattle.rr_periodic.proofs.SketchLemmas.{rising_from}
 use Rattle.rr_canon.specs.Kept.{sketch_of, number_kept, IsKept, AreStretchOf}
 
 -- ---- what is read

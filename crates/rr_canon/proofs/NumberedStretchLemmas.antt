@@ -10,16 +10,16 @@ use Rattle.rr_model.specs.Sets.Sketch.{IsValidSketch, IsTimeSet, times_on}
 use Rattle.rr_model.specs.declared.kind.Kind.{Kind}
 use Rattle.rr_model.specs.declared.kind.Kind.TheVariants.{Days, Moments}
 use Rattle.rr_model.specs.declared.sketch.Sketch.{Sketch}
-use Rattle.rr_word.proofs.SketchLemmas.{rising_on, set_on}
+use Rattle.rr_periodic.proofs.SketchLemmas.{rising_on, set_on}
 use Rattle.rr_model.specs.Sets.Descriptor.{with_sets_of}
 use Rattle.rr_model.specs.Sets.Occupied.{day_shapes, shape_if_some}
-use Rattle.rr_word.proofs.OccupiedLemmas.{occupied_few}
+use Rattle.rr_periodic.proofs.OccupiedLemmas.{occupied_few}
 use Rattle.rr_canon.proofs.PrintableLemmas.{sets_few}
-use Rattle.rr_word.proofs.SetNumberLemmas.{IsKnown as IsKnownIn, all_known}
-use Rattle.rr_word.specs.Stretches.{AreFree}
-use Rattle.rr_word.specs.Numbered.{numbered_days}
-use Rattle.rr_word.specs.declared.numbered.NumberedDay.{NumberedDay}
-use Rattle.rr_word.proofs.NumberedLemmas.{numbered_stays_of, numbered-append, with_sets_of-append}
+use Rattle.rr_periodic.proofs.SetNumberLemmas.{IsKnown as IsKnownIn, all_known}
+use Rattle.rr_periodic.specs.Stretches.{AreFree}
+use Rattle.rr_periodic.specs.Numbered.{numbered_days}
+use Rattle.rr_periodic.specs.declared.numbered.NumberedDay.{NumberedDay}
+use Rattle.rr_periodic.proofs.NumberedLemmas.{numbered_stays_of, numbered-append, with_sets_of-append}
 use Rattle.rr_canon.specs.Kept.{AreStretchOf, IsPutDay}
 
 -- no day yet

@@ -6,10 +6,10 @@ use Rattle.std.proofs.lemmas.Int.{ints}
 use Rattle.std.proofs.lemmas.List.{get_or-drop, length-drop}
 use Rattle.std.proofs.lemmas.Option.{get_or_from_slice_get, same_Some}
 use Rattle.rr_model.specs.Sets.Descriptor.{number_of}
-use Rattle.rr_word.proofs.SetNumberLemmas.{known_new, known_stays, number_stays}
+use Rattle.rr_periodic.proofs.SetNumberLemmas.{known_new, known_stays, number_stays}
 use Rattle.rr_model.specs.declared.sketch.Sketch.{Sketch}
-use Rattle.rr_word.specs.Stretches.{AreFree, IsNumberOn, IsStretch}
-use Rattle.rr_word.specs.declared.numbered.NumberedDay.{NumberedDay}
+use Rattle.rr_periodic.specs.Stretches.{AreFree, IsNumberOn, IsStretch}
+use Rattle.rr_periodic.specs.declared.numbered.NumberedDay.{NumberedDay}
 use Rattle.rr_canon.specs.Kept.{AreKnown, AreNumbersFrom, IsEmptyOne, IsKnownNumber, IsPutDay, IsPutNumber}
 use Rattle.rr_canon.specs.Placed.{IsNumbered}
 

@@ -21,9 +21,9 @@ use Rattle.rr_model.specs.Sets.Least.{IsLeastOfFinite, IsLeastOfEndless}
 use Rattle.rr_model.specs.Sets.Printable.{IsPrintedDay, IsPrintedRun, ArePrintedSets, IsPrintedIfSome, IsPrintedSet, IsPrinted, IsInLine, IsSetLine}
 use Rattle.rr_model.specs.Sets.Printable.{IsDescribable, TellsSetsApart, IsTextOf}
 use Rattle.rr_model.proofs.YearLemmas.{from_year_one}
-use Rattle.rr_word.proofs.OneLeastLemmas.{before_part, first_period, one_least}
-use Rattle.rr_word.proofs.SetNumberLemmas.{IsKnown, number_within, All-front, All-back, All-with_sets_of}
-use Rattle.rr_word.proofs.ShapeLemmas.{some_set, times_in-first}
+use Rattle.rr_periodic.proofs.OneLeastLemmas.{before_part, first_period, one_least}
+use Rattle.rr_periodic.proofs.SetNumberLemmas.{IsKnown, number_within, All-front, All-back, All-with_sets_of}
+use Rattle.rr_periodic.proofs.ShapeLemmas.{some_set, times_in-first}
 use Rattle.rr_canon.proofs.DescriptorLemmas.{said, descriptor_of_some, descriptor_of_none, known_of, first_and_rest, some_form}
 use Rattle.rr_canon.proofs.ReadingLemmas.{descriptor_only}
 use Rattle.rr_canon.proofs.TextLemmas.{text_only, IsSetLine-seconds}

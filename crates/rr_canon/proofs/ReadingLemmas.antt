@@ -10,9 +10,9 @@ use Rattle.rr_model.specs.declared.sketch.Sketch.{Sketch}
 use Rattle.rr_model.specs.Sets.Descriptor.{Ending, steps_from, runs_of, sets_of, number_of, ending_of, descriptor}
 use Rattle.rr_model.specs.Sets.Least.{IsLeastSketch, IsLeastOfFinite}
 use Rattle.rr_model.specs.Sets.Reading.{steps_of_runs, days_from, day_after, sketch_with, sketch_described}
-use Rattle.rr_word.proofs.OneLeastLemmas.{before_part, sketch_is}
-use Rattle.rr_word.proofs.SetNumberLemmas.{IsKnown, read_number, All-front, All-back}
-use Rattle.rr_word.proofs.ShapeLemmas.{int_eq-differ}
+use Rattle.rr_periodic.proofs.OneLeastLemmas.{before_part, sketch_is}
+use Rattle.rr_periodic.proofs.SetNumberLemmas.{IsKnown, read_number, All-front, All-back}
+use Rattle.rr_periodic.proofs.ShapeLemmas.{int_eq-differ}
 use Rattle.rr_canon.proofs.DescriptorLemmas.{steps_of_runs-runs_of, said, descriptor_of_some, descriptor_of_none, known_of, first_and_rest}
 use Rattle.rr_canon.proofs.DescriptorLemmas.{rises_from_first, some_form, cycle_some}
 

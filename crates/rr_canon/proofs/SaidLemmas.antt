@@ -11,9 +11,9 @@ use Rattle.rr_model.specs.Sets.DescriptorText.{text_of_lines, text_of, lines_of}
 use Rattle.rr_model.specs.Sets.Least.{IsLeastSketch}
 use Rattle.rr_model.specs.Sets.Printable.{IsPrintedDay, HasNoneBeforeYearOne, IsDescribable}
 use Rattle.rr_canon.proofs.PrintableLemmas.{first_printed, settled_printed}
-use Rattle.rr_word.specs.Numbered.{numbered_days, shapes_of}
-use Rattle.rr_word.specs.declared.numbered.NumberedDay.{NumberedDay}
-use Rattle.rr_word.specs.Bounded.{IsBounded, IsDaySequence-bounded}
+use Rattle.rr_periodic.specs.Numbered.{numbered_days, shapes_of}
+use Rattle.rr_periodic.specs.declared.numbered.NumberedDay.{NumberedDay}
+use Rattle.rr_periodic.specs.Bounded.{IsBounded, IsDaySequence-bounded}
 use Rattle.rr_canon.specs.Kept.{sketch_of, IsKept}
 use Rattle.rr_canon.specs.Said.{steps_by_number, ending_said, first_in, said_of}
 use Rattle.rr_canon.proofs.LineLemmas.{text_of_lines-append}

@@ -6,7 +6,7 @@ use Rattle.std.proofs.lemmas.Cmp.{nat_list_eq_equiv}
 use Rattle.std.proofs.lemmas.Map.Views.{Contains-from_any, list_any-from_Contains}
 use Rattle.std.proofs.lemmas.Option.{slice_get-get_or}
 use Rattle.rr_model.specs.Sets.Descriptor.{is_same_set, number_of, with_set}
-use Rattle.rr_word.proofs.SetNumberLemmas.{number_within, read_number}
+use Rattle.rr_periodic.proofs.SetNumberLemmas.{number_within, read_number}
 use Rattle.rr_shapes.specs.Numbering.{IsNumbering}
 use Rattle.rr_shapes.specs.Placing.{IsPlaced}
 use Rattle.rr_shapes.proofs.ShapeLemmas.{absent, known_in, one_number}

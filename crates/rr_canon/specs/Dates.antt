@@ -1,7 +1,7 @@
 -- The texts of the two days that a descriptor names.
 use Rattle.std.specs.Prelude.{◌≡◌, ℕ, List, [], ◌∷◌, ◌++◌, ℤ}
 use Rattle.rr_model.specs.Text.Moments.{extended_date_text}
-use Rattle.rr_word.specs.declared.numbered.NumberedDay.{NumberedDay}
+use Rattle.rr_periodic.specs.declared.numbered.NumberedDay.{NumberedDay}
 
 -- the text of the first of these days, empty if there is none
 abbrev pub first_text : List NumberedDay → List ℕ

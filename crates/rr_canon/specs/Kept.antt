@@ -9,9 +9,9 @@ use Rattle.rr_model.specs.Sets.Descriptor.{is_same_set, number_of, with_sets_of}
 use Rattle.rr_model.specs.Sets.Occupied.{day_shapes, shape_if_some}
 use Rattle.rr_model.specs.Sets.Sketch.{StandsIn}
 use Rattle.rr_model.specs.Sets.Verdict.{HaveEqualOccurrences}
-use Rattle.rr_word.specs.Stretches.{IsNumberOn}
-use Rattle.rr_word.specs.Numbered.{shapes_of, numbered_days, number_in}
-use Rattle.rr_word.specs.declared.numbered.NumberedDay.{NumberedDay}
+use Rattle.rr_periodic.specs.Stretches.{IsNumberOn}
+use Rattle.rr_periodic.specs.Numbered.{shapes_of, numbered_days, number_in}
+use Rattle.rr_periodic.specs.declared.numbered.NumberedDay.{NumberedDay}
 
 -- the sketch with these parts, its days told by number
 abbrev pub sketch_of : Kind → List (List ℕ) → List NumberedDay → ℤ → ℕ → List NumberedDay → Sketch

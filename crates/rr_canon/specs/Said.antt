@@ -3,7 +3,7 @@ use Rattle.std.specs.Prelude.{◌≡◌, ℕ, ◌+◌, ◌≤◌, map, List, [],
 use Rattle.rr_model.specs.declared.kind.Kind.{Kind}
 use Rattle.rr_model.specs.Sets.Descriptor.{Step, Run, Ending, Described, is_run_of, with_step, runs_of}
 use Rattle.rr_model.specs.Sets.DescriptorText.{text_of_lines, run_line}
-use Rattle.rr_word.specs.declared.numbered.NumberedDay.{NumberedDay}
+use Rattle.rr_periodic.specs.declared.numbered.NumberedDay.{NumberedDay}
 
 -- the steps from a day on over numbered days
 abbrev pub steps_by_number : ℤ → List NumberedDay → List Step

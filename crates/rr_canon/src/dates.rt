@@ -10,8 +10,8 @@ ghost use Rattle.rr_canon.specs.Said.{first_in};
 
 use crate::least_seq::LeastSeq;
 use rr_model::{Kind, NoMemory};
+use rr_periodic::NumberedDay;
 use rr_text::push_extended;
-use rr_word::NumberedDay;
 use std::alloc::Global;
 
 /// The texts of the first occupied day and of the settled day, as `2024-02-29`; empty if there is no such day or none repeats.

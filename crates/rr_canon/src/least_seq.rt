@@ -4,13 +4,13 @@ ghost use Rattle.rr_model.specs.Bounds.{earliest_taken, latest_taken, longest_pe
 ghost use Rattle.rr_model.specs.Sets.Sketch.{IsFirstDay, IsNearDay};
 ghost use Rattle.rr_model.specs.Whole.{floor_mod};
 ghost use Rattle.rr_model.specs.Sets.Least.{IsLeastOfNone, IsLeastSketch};
-ghost use Rattle.rr_word.specs.Bounded.{IsBounded, IsBounded-prop, IsFirstDay-prop};
+ghost use Rattle.rr_periodic.specs.Bounded.{IsBounded, IsBounded-prop, IsFirstDay-prop};
 ghost use Rattle.rr_canon.specs.Kept.{HaveSameOccurrences, IsKept, sketch_of};
 
 use crate::stretch::number_days;
 use rr_model::{Kind, NoMemory};
+use rr_periodic::{DaySeq, NumberedDays, Stretch, days_between, least_period, least_start};
 use rr_shapes::TimeSets;
-use rr_word::{DaySeq, NumberedDays, Stretch, days_between, least_period, least_start};
 use std::alloc::Global;
 
 /// The least sketch of a set: its least period, from its least start on.
@@ -50,7 +50,7 @@ fn empty_seq(alloc: Global) -> LeastSeq
 }
 
 impl DaySeq for LeastSeq {
-    ghost use Rattle.rr_word.specs.Bounded.{IsDaySequence-bounded};
+    ghost use Rattle.rr_periodic.specs.Bounded.{IsDaySequence-bounded};
     ghost use Rattle.rr_canon.specs.Least.{least_sketch};
 
     ghost sketch = { λ l. least_sketch l };

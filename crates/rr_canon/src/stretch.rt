@@ -3,14 +3,14 @@ ghost use Rattle.std.specs.Prelude.{◌≡◌, ◌<◌, ◌≤◌, IfOk, IfSome,
 ghost use Rattle.rr_model.specs.Bounds.{earliest_near, earliest_taken, latest_taken};
 ghost use Rattle.rr_model.specs.Rising.Sets.{IsSecondsOfDay};
 ghost use Rattle.rr_model.specs.Sets.Sketch.{IsNearDay, times_on};
-ghost use Rattle.rr_word.specs.Stretches.{AreFree, IsNumberOn, IsStretch};
+ghost use Rattle.rr_periodic.specs.Stretches.{AreFree, IsNumberOn, IsStretch};
 ghost use Rattle.rr_canon.specs.Kept.{AreKnown, AreNumbersFrom, AreStretchOf, IsEmptyOne, IsKeptDay, IsKnownNumber, IsPutDay, IsPutNumber, SameNumbers};
 ghost use Rattle.rr_canon.specs.Placed.{IsNumbered};
 
 use rr_model::NoMemory;
+use rr_periodic::{DaySeq, NumberedDay, NumberedDays, Stretch};
 use rr_shapes::TimeSets;
 use rr_times::TimeSet;
-use rr_word::{DaySeq, NumberedDay, NumberedDays, Stretch};
 use std::alloc::Global;
 
 // What is known of the time sets of a sequence: by its own number for a set, the number of the set among those that are kept, and

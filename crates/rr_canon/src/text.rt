@@ -17,8 +17,8 @@ use crate::lines::{
 };
 use crate::version::Version;
 use rr_model::Kind;
+use rr_periodic::NumberedDay;
 use rr_shapes::TimeSets;
-use rr_word::NumberedDay;
 use std::io::{self, Write};
 
 // Whether the step goes on with the run.

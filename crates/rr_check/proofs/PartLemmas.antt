@@ -42,10 +42,10 @@ module _ (repeats : CalendarRepeats) (c d : ℤ) where
   days_in_month-cycle =
       rw ((repeats.days c d).year, (repeats.days c d).month) ((repeats.years c (year_of d)).days_in_months (month_of d))
 
-  in_place-cycle : (n : ℤ) (in_year : Bool) → is_ordinal_of_day n in_year (later_day c d) ≡ is_ordinal_of_day n in_year d
-  in_place-cycle n true =
+  ordinal_of_day-cycle : (n : ℤ) (in_year : Bool) → is_ordinal_of_day n in_year (later_day c d) ≡ is_ordinal_of_day n in_year d
+  ordinal_of_day-cycle n true =
       rw ((repeats.days c d).day_of_year, days_in_year-cycle, front-cycle (day_of_year d), back-cycle (day_of_year d) (days_in_year (year_of d))) refl
-  in_place-cycle n false =
+  ordinal_of_day-cycle n false =
       rw (
         (repeats.days c d).day_of_month,
         days_in_month-cycle,
@@ -54,7 +54,7 @@ module _ (repeats : CalendarRepeats) (c d : ℤ) where
       ) refl
 
   day_item-cycle : (in_year : Bool) (item : DayItem) → day_item_holds in_year (later_day c d) item ≡ day_item_holds in_year d item
-  day_item-cycle in_year item = rw ((repeats.days c d).weekday, in_place-cycle item.place in_year) refl
+  day_item-cycle in_year item = rw ((repeats.days c d).weekday, ordinal_of_day-cycle item.ordinal in_year) refl
 
   module _ (rule : Rule) where
     by_month-cycle : by_month_holds rule (later_day c d) ≡ by_month_holds rule d
@@ -86,7 +86,7 @@ module _ (repeats : CalendarRepeats) (c d : ℤ) where
 -- ---- whole weeks
 
 -- a day of the week without a number holds again after whole weeks
-day_item-weeks : (in_year : Bool) (d k : ℤ) (item : DayItem) → int_eq item.place (pos 0) ≡ true
+day_item-weeks : (in_year : Bool) (d k : ℤ) (item : DayItem) → int_eq item.ordinal (pos 0) ≡ true
     → day_item_holds in_year (d +ℤ (k *ℤ pos 7)) item ≡ day_item_holds in_year d item
 day_item-weeks in_year d k item plain = rw (plain, weekday_of-weeks d k) refl
 
@@ -94,8 +94,8 @@ day_items-weeks : (in_year : Bool) (d k : ℤ) (items : List DayItem) → has_or
     → list_any (day_item_holds in_year (d +ℤ (k *ℤ pos 7))) items ≡ list_any (day_item_holds in_year d) items
 day_items-weeks in_year d k [] plain = refl
 day_items-weeks in_year d k (item ∷ items) plain =
-    let p = or_parts (not (int_eq item.place (pos 0))) (has_ordinals items) plain in
-    rw (day_item-weeks in_year d k item (not-false (int_eq item.place (pos 0)) p.0), day_items-weeks in_year d k items p.1) refl
+    let p = or_parts (not (int_eq item.ordinal (pos 0))) (has_ordinals items) plain in
+    rw (day_item-weeks in_year d k item (not-false (int_eq item.ordinal (pos 0)) p.0), day_items-weeks in_year d k items p.1) refl
 
 -- no part is present whose days follow the calendar's years
 pub record AsksNoCalendar (rule : Rule) : Type 0 where

@@ -32,7 +32,7 @@ abbrev with_rules : List Rule → Series
 with_rules rules = with_excluded rules []
 
 abbrev tuesdays : List DayItem
-tuesdays = record { place = pos 0; weekday = 1 } ∷ []
+tuesdays = record { ordinal = pos 0; weekday = 1 } ∷ []
 
 -- nothing; an UNTIL of another kind; one before the start; and the number of the first rule that does not choose the start
 of_series :

@@ -1,4 +1,4 @@
--- The rows of a folded series.
+-- The rows of a day table.
 use Rattle.std.proofs.Common.{◌≡◌, ℕ, suc, ◌+◌, ◌%◌, ◌<◌, ◌≤◌, List, [], ◌∷◌, length, get_or, drop, ℤ, pos, nat_abs, ◌+ℤ◌, ◌-ℤ◌, ◌<ℤ◌, refl, sym, ap, ◌∙◌, arith}
 use Rattle.std.specs.Prelude.{Option, Some, slice_get}
 use Rattle.std.proofs.Math.Nat.{mod-add-mod, mod-eq_of_lt}
@@ -9,9 +9,9 @@ use Rattle.rr_model.specs.Sets.Sketch.{times_on}
 use Rattle.rr_model.specs.declared.kind.Kind.{Kind}
 use Rattle.rr_model.specs.declared.sketch.Sketch.{Sketch}
 use Rattle.rr_runs.specs.Pages.{IsPiece, IsZeroFrom}
-use Rattle.rr_word.specs.Stretches.{AreFree, IsStretch}
+use Rattle.rr_periodic.specs.Stretches.{AreFree, IsStretch}
 use Rattle.rr_days.specs.Rows.{IsIndexOn, IsRowOn, first_number}
-use Rattle.rr_days.specs.Sketched.{IsWholeFold, sketch_of}
+use Rattle.rr_days.specs.Sketched.{IsWholeDayTable, sketch_of}
 use Rattle.rr_days.proofs.SequenceLemmas.{times_at_days}
 use Rattle.rr_days.proofs.SketchedLemmas.{times_early, times_after}
 
@@ -39,7 +39,7 @@ row_first sets s day row is l =
     let zero_on : day +ℤ pos 0 ≡ day = omega (arith, ints) in
     is.of_days 0 (omega arith) ∙ ap (λ d. Some (times_on s d)) zero_on
 
-module _ (kind : Kind) (sets : List (List ℕ)) (numbers : List ℕ) (first settled : ℤ) (period : ℕ) (w : IsWholeFold kind sets numbers first settled period)
+module _ (kind : Kind) (sets : List (List ℕ)) (numbers : List ℕ) (first settled : ℤ) (period : ℕ) (w : IsWholeDayTable kind sets numbers first settled period)
     (day : ℤ) where
   abbrev sketch : Sketch
   sketch = sketch_of kind sets numbers first settled period

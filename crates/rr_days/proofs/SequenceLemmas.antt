@@ -1,4 +1,4 @@
--- The sketch of folded days is a day sequence.
+-- The sketch of numbered days is a day sequence.
 use Rattle.std.proofs.Common.{◌≡◌, ◌≢◌, ℕ, zero, suc, ◌+◌, ◌-◌, ◌%◌, ◌<◌, ◌≤◌, List, [], ◌∷◌, length, get_or, take, drop, All, ℤ, pos, nat_abs, ◌+ℤ◌}
 use Rattle.std.proofs.Common.{◌-ℤ◌, ◌≤ℤ◌, ◌<ℤ◌, refl, sym, ap, subst, ◌∙◌, inl, inr, arith}
 use Rattle.std.specs.Prelude.{Option, Some, None}
@@ -11,10 +11,10 @@ use Rattle.rr_model.specs.declared.kind.Kind.{Kind}
 use Rattle.rr_model.specs.declared.sketch.DayShape.{DayShape}
 use Rattle.rr_model.specs.declared.sketch.Sketch.{Sketch}
 use Rattle.rr_model.proofs.WholeLemmas.{floor_only, floor_mod_below}
-use Rattle.rr_word.specs.Bounded.{IsBounded}
-use Rattle.rr_word.proofs.SketchLemmas.{rising_from}
+use Rattle.rr_periodic.specs.Bounded.{IsBounded}
+use Rattle.rr_periodic.proofs.SketchLemmas.{rising_from}
 use Rattle.rr_days.proofs.SketchedLemmas.{times_early, times_before, times_after}
-use Rattle.rr_days.specs.Sketched.{with_day, shapes_from, sketch_of, IsEmptyAt, IsFirstFilled, IsWholeFold}
+use Rattle.rr_days.specs.Sketched.{with_day, shapes_from, sketch_of, IsEmptyAt, IsFirstFilled, IsWholeDayTable}
 
 -- ---- the days rise
 
@@ -88,7 +88,7 @@ times_at_days kind sets numbers first settled period order some whole d k e l =
           times_after kind sets numbers first settled period days some from_first whole d j f ∙ ap (λ x. get_or sets (get_or numbers x 0) []) z)
     ]
 
-module _ (kind : Kind) (sets : List (List ℕ)) (numbers : List ℕ) (first settled : ℤ) (period : ℕ) (w : IsWholeFold kind sets numbers first settled period) where
+module _ (kind : Kind) (sets : List (List ℕ)) (numbers : List ℕ) (first settled : ℤ) (period : ℕ) (w : IsWholeDayTable kind sets numbers first settled period) where
   abbrev sketch : Sketch
   sketch = sketch_of kind sets numbers first settled period
 

@@ -1,4 +1,4 @@
--- Rows of numbers of a folded series.
+-- Rows of numbers of a tabulated series.
 use Rattle.std.specs.Prelude.{◌≡◌, ℕ, ◌+◌, ◌<◌, List, [], ◌∷◌, length, get_or, slice_get, Option, Some, None, ℤ, pos, ◌+ℤ◌}
 use Rattle.rr_model.specs.Sets.Sketch.{times_on}
 use Rattle.rr_model.specs.declared.sketch.Sketch.{Sketch}

@@ -9,7 +9,7 @@ ghost use Rattle.rr_days.specs.MadeSets.{AreSetNumbers, IsLeftOnErr, IsMadeOf, I
 
 use crate::op::Op;
 use rr_model::{Fault, NoMemory};
-use rr_shapes::{FoldedSetId, Pair, PairNumbers, Shapes};
+use rr_shapes::{Pair, PairNumbers, ShapeId, Shapes};
 use rr_times::TimeSet;
 use std::alloc::Global;
 
@@ -59,14 +59,14 @@ impl CombinedSets {
     }
 
     /// The number of the set that is made of a pair; None exactly if none is known.
-    pub fn known_number(&mut self, pair: Pair) -> Option<FoldedSetId>
+    pub fn known_number(&mut self, pair: Pair) -> Option<ShapeId>
         requires numbers { AreSetNumbers self.old.known }
         ensures known { IfSome result (λ set. Contains self.old.known (pair, set.number)) }
         ensures unknown { IfNone result (IsUnknown self.old.known pair) }
         ensures unchanged { self.new ≡ self.old }
     {
         let number = self.known.get(pair)?;
-        Some(FoldedSetId {
+        Some(ShapeId {
             number: number as u32,
         })
     }
@@ -84,7 +84,7 @@ impl CombinedSets {
         pair: Pair,
         a: &[u32],
         b: &[u32],
-    ) -> Result<FoldedSetId, Fault>
+    ) -> Result<ShapeId, Fault>
         requires a { IsSecondsOfDay a.now }
         requires b { IsSecondsOfDay b.now }
         requires new { IsUnknown self.old.known pair }

@@ -8,8 +8,8 @@ use Rattle.rr_model.specs.Sets.Sketch.{IsValidSketch, times_on}
 use Rattle.rr_model.specs.declared.sketch.Sketch.{Sketch}
 use Rattle.rr_model.specs.declared.verdict.Side.{Side}
 use Rattle.rr_model.proofs.PeriodicLemmas.{offset}
-use Rattle.rr_word.proofs.SketchLemmas.{rising_on}
-use Rattle.rr_word.specs.Stretches.{AreFree, AreNumbersAfter, IsNumberOn}
+use Rattle.rr_periodic.proofs.SketchLemmas.{rising_on}
+use Rattle.rr_periodic.specs.Stretches.{AreFree, AreNumbersAfter, IsNumberOn}
 use Rattle.rr_decide.specs.Alike.{AreAlike, HaveOneAt, HaveOneOf, IsNextAlike, IsRun, days_of}
 use Rattle.rr_decide.specs.Look.{IsShownOn}
 use Rattle.rr_decide.specs.Question.{IsFirstDayShown, ShowsNone, ShowsNoneWithin, shown_by}

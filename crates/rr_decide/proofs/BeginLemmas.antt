@@ -6,7 +6,7 @@ use Rattle.std.proofs.lemmas.Int.{ints, clamps}
 use Rattle.rr_model.specs.Sets.Sketch.{IsFirstDay}
 use Rattle.rr_model.specs.declared.kind.Kind.{Kind}
 use Rattle.rr_model.specs.declared.sketch.Sketch.{Sketch}
-use Rattle.rr_word.proofs.OneLeastLemmas.{one_first}
+use Rattle.rr_periodic.proofs.OneLeastLemmas.{one_first}
 use Rattle.rr_decide.specs.Begin.{BeginOn, Begins}
 
 pub begin_on : (s u : Sketch) (kind_a kind_b : Kind) (first_a first_b : Option ℤ) (x y from : ℤ) → first_a ≡ Some x → first_b ≡ Some y → kind_a ≡ kind_b

@@ -7,7 +7,7 @@ use Rattle.rr_model.specs.Sets.Verdict.{HoldsOn}
 use Rattle.rr_model.specs.declared.verdict.Side.{Side}
 use Rattle.rr_model.specs.declared.verdict.Side.TheVariants.{A, B, Both}
 use Rattle.rr_model.proofs.RisingSetLemmas.{Contains-none}
-use Rattle.rr_word.specs.Merge.{IsNextSecond}
+use Rattle.rr_periodic.specs.Merge.{IsNextSecond}
 use Rattle.rr_decide.specs.Question.{IsShown, ShowsNone, ShowsNoneBelow, IsFirstShown, shown_by}
 use Rattle.rr_model.specs.declared.question.Question.TheVariants.{Equal, Within, Disjoint}
 use Rattle.rr_model.proofs.SideLemmas.{HoldsOn-some}

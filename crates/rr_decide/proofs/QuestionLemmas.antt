@@ -9,7 +9,7 @@ use Rattle.rr_model.specs.declared.verdict.Verdict.{Verdict}
 use Rattle.rr_model.specs.declared.verdict.Verdict.TheVariants.{Yes, No}
 use Rattle.rr_decide.specs.Question.{IsShown, IsVerdictBy, shown_by}
 use Rattle.rr_model.specs.declared.question.Question.TheVariants.{Equal, Within, Disjoint}
-use Rattle.rr_word.proofs.SketchLemmas.{stands_or_not}
+use Rattle.rr_periodic.proofs.SketchLemmas.{stands_or_not}
 
 both_or_neither : (P Q : Type 0) → P ⊎ (P → ⊥) → Q ⊎ (Q → ⊥) → (IsShown (shown_by Equal) P Q → ⊥) → P ↔ Q
 both_or_neither P Q dp dq none = (

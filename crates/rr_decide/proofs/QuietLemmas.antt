@@ -9,10 +9,10 @@ use Rattle.rr_model.specs.Sets.Sketch.{times_on}
 use Rattle.rr_model.specs.declared.sketch.Sketch.{Sketch}
 use Rattle.rr_model.specs.declared.verdict.Side.{Side}
 use Rattle.rr_model.proofs.PeriodicLemmas.{offset}
-use Rattle.rr_word.specs.PairMemo.{IsPair}
-use Rattle.rr_word.specs.Stretches.{IsNumberOn, IsStretch}
-use Rattle.rr_word.specs.declared.pair_memo.Pair.{Pair}
-use Rattle.rr_word.specs.declared.pair_memo.PairMemo.{PairMemo}
+use Rattle.rr_periodic.specs.PairMemo.{IsPair}
+use Rattle.rr_periodic.specs.Stretches.{IsNumberOn, IsStretch}
+use Rattle.rr_periodic.specs.declared.pair_memo.Pair.{Pair}
+use Rattle.rr_periodic.specs.declared.pair_memo.PairMemo.{PairMemo}
 use Rattle.rr_decide.specs.Question.{ShowsNone, ShowsNoneWithin, shown_by}
 use Rattle.rr_decide.specs.Quiet.{AreRemembered, HasPair, IsAlike, IsPlaced, IsQuiet, IsRecent, WereThere, WereThereOr}
 use Rattle.rr_decide.specs.Quiet.{ShowNothing, ShowNothingBelow, ShowNothingTogether}

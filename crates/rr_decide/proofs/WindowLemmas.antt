@@ -8,15 +8,15 @@ use Rattle.rr_model.specs.Whole.Divisors.{lcm}
 use Rattle.rr_model.specs.Rising.{Rises}
 use Rattle.rr_model.specs.Whole.Periodic.{AgreeFrom}
 use Rattle.rr_model.specs.Sets.Sketch.{IsValidSketch, times_on}
-use Rattle.rr_word.specs.SketchLaws.{IsCommonMultiple}
+use Rattle.rr_periodic.specs.SketchLaws.{IsCommonMultiple}
 use Rattle.rr_model.specs.declared.sketch.Sketch.{Sketch}
 use Rattle.rr_model.specs.declared.verdict.Side.{Side}
 use Rattle.rr_model.specs.declared.verdict.Side.TheVariants.{A, B, Both}
 use Rattle.rr_num.proofs.DivisorLemmas.{lcm_is, lcm_some}
 use Rattle.rr_model.proofs.PeriodicLemmas.{offset}
 use Rattle.rr_model.proofs.SecondsLemmas.{Contains-or_not, one_list}
-use Rattle.rr_word.proofs.SketchLemmas.{agreement_of_sketches_lasts, common_window, rising_on}
-use Rattle.rr_word.specs.Stretches.{AreFree}
+use Rattle.rr_periodic.proofs.SketchLemmas.{agreement_of_sketches_lasts, common_window, rising_on}
+use Rattle.rr_periodic.specs.Stretches.{AreFree}
 use Rattle.std.specs.Prelude.{Option, None, Some, IfNone}
 use Rattle.rr_decide.specs.declared.days.Shown.{Shown}
 use Rattle.rr_decide.specs.Question.{HasNoneBefore, IsFirstDayShown, IsFirstShown, IsWindow, ShowsNone, ShowsNoneBelow, ShowsNoneFor, ShowsNoneWithin, shown_by}

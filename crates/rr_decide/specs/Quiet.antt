@@ -1,9 +1,9 @@
 -- Numbers of time sets that together show nothing.
 use Rattle.std.specs.Prelude.{◌≡◌, ◌⊎◌, Bool, ℕ, ◌<◌, List, Option, None, Some, slice_get}
 use Rattle.rr_model.specs.declared.verdict.Side.{Side}
-use Rattle.rr_word.specs.PairMemo.{IsPair, KeepsPair}
-use Rattle.rr_word.specs.declared.pair_memo.Pair.{Pair}
-use Rattle.rr_word.specs.declared.pair_memo.PairMemo.{PairMemo}
+use Rattle.rr_periodic.specs.PairMemo.{IsPair, KeepsPair}
+use Rattle.rr_periodic.specs.declared.pair_memo.Pair.{Pair}
+use Rattle.rr_periodic.specs.declared.pair_memo.PairMemo.{PairMemo}
 use Rattle.rr_decide.specs.Question.{ShowsNone}
 use Rattle.rr_decide.specs.declared.quiet.Quiet.{Quiet}
 use Rattle.rr_decide.specs.declared.quiet.Recent.{Recent}

@@ -2,7 +2,7 @@
 ghost use Rattle.std.specs.Prelude.{◌<◌, ◌≤◌, IfSome, IfNone, Some, length, pos, ◌≤ℤ◌};
 ghost use Rattle.rr_model.specs.Bounds.{earliest_near, earliest_taken, latest_taken};
 ghost use Rattle.rr_model.specs.Sets.Sketch.{IsNearDay};
-ghost use Rattle.rr_word.specs.Stretches.{AreFree, IsNumberOn};
+ghost use Rattle.rr_periodic.specs.Stretches.{AreFree, IsNumberOn};
 ghost use Rattle.rr_decide.specs.Look.{IsFirstFrom, IsFirstOn, IsLook};
 ghost use Rattle.rr_decide.specs.Begin.{AreBegun};
 ghost use Rattle.rr_decide.specs.Question.{ShowsNoneFor, shown_by};
@@ -13,7 +13,7 @@ use crate::merge::{are_equal, first_shown};
 use crate::question::{FREE_DAYS, asks_second, days_without};
 use crate::quiet::{Quiet, are_remembered};
 use rr_model::{Kind, Question, Side};
-use rr_word::{DaySeq, Pair, seconds};
+use rr_periodic::{DaySeq, Pair, seconds};
 
 /// A second of a day that shows that the answer is no.
 #[derive(Clone, Copy)]

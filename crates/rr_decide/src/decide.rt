@@ -14,7 +14,7 @@ use crate::days::{Shown, first_day_shown};
 use crate::verdicts::verdict_by_walk;
 use rr_model::{MAX_CYCLE_DAYS, Question, Verdict};
 use rr_num::lcm_within;
-use rr_word::{DaySeq, common_cycle};
+use rr_periodic::{DaySeq, common_cycle};
 
 /// Whether two sets have equal occurrences for all years to come; otherwise the first that exactly one of them has.
 ///

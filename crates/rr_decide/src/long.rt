@@ -3,7 +3,7 @@ ghost use Rattle.std.specs.Prelude.{◌≡◌, ◌⊎◌, ◌+◌, ◌-◌, ◌*
 ghost use Rattle.rr_model.specs.Bounds.{earliest_near, latest_taken};
 ghost use Rattle.rr_model.specs.Sets.Sketch.{IsEmptySketch, IsNearDay, StandsIn};
 ghost use Rattle.rr_model.specs.Sets.Verdict.{IsEqualVerdict};
-ghost use Rattle.rr_word.specs.Stretches.{AreNumbersAfter, IsNumberOn};
+ghost use Rattle.rr_periodic.specs.Stretches.{AreNumbersAfter, IsNumberOn};
 ghost use Rattle.rr_decide.specs.Alike.{AreAlike, AreCompared, AreOf, HaveOneAt, HaveOneOf, IsCompared, IsNextAlike, IsRun, days_of};
 ghost use Rattle.rr_decide.specs.Look.{IsFirstFrom, IsFirstOn};
 ghost use Rattle.rr_decide.specs.Occurrence.{IsFirstOrNone, IsNearOccurrence, IsUpToMaxDay, NamesUpToMaxDay};
@@ -18,8 +18,8 @@ use crate::merge::first_shown;
 use crate::occurrence::Occurrence;
 use crate::verdicts::verdict_of_lesser;
 use rr_model::{Question, Verdict};
+use rr_periodic::{Counted, DaySeq, days_between};
 use rr_steps::Steps;
-use rr_word::{Counted, DaySeq, days_between};
 use std::sync::ledger::Ledger;
 
 /// Whether two sets have equal occurrences for all years to come, whatever their common cycle is; otherwise the first

@@ -5,7 +5,7 @@ ghost use Rattle.rr_decide.specs.Question.{IsFirstSecondShown, ShowsNone, shown_
 
 use crate::question::is_shown_by;
 use rr_model::{Question, Side};
-use rr_word::next_second;
+use rr_periodic::next_second;
 
 /// Whether two lists have the same numbers in the same order.
 pub fn are_equal(xs: &[u32], ys: &[u32]) -> bool

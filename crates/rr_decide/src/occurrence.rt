@@ -6,7 +6,7 @@ ghost use Rattle.rr_model.specs.declared.verdict.Verdict.TheVariants.{No};
 ghost use Rattle.rr_decide.specs.Occurrence.{IsFirstOrNone, IsNearOccurrence, IsUpToMaxDay};
 
 use rr_model::{Kind, SECONDS_OF_DAY, Side, Verdict, moment_at};
-use rr_word::DaySeq;
+use rr_periodic::DaySeq;
 
 /// An occurrence of a set: a date or a moment.
 #[derive(Clone, Copy)]

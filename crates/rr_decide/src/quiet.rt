@@ -1,10 +1,10 @@
 // Pairs of time sets that showed nothing, by their numbers.
 ghost use Rattle.std.specs.Prelude.{◌≡◌, ◌+◌, ◌⊎◌, ◌<◌, ◌≤◌, ℕ, IsTrue, Some, length, get_or};
-ghost use Rattle.rr_word.specs.PairMemo.{IsPair};
+ghost use Rattle.rr_periodic.specs.PairMemo.{IsPair};
 ghost use Rattle.rr_decide.specs.Quiet.{AreRemembered, HasPair, IsAlike, IsPlaced, IsRecent, WereThere, WereThereOr};
 ghost use Rattle.rr_decide.specs.Rows.{EachPair};
 
-use rr_word::{Pair, PairMemo};
+use rr_periodic::{Pair, PairMemo};
 
 // How many indexes make a block.
 const BLOCK: usize = 16;

@@ -8,7 +8,7 @@ use crate::days::{first_day_shown, first_of_both};
 use crate::occurrence::{Occurrence, first_occurrence};
 use crate::question::is_shown_by;
 use rr_model::{Question, Side, Verdict};
-use rr_word::{DaySeq, days_between};
+use rr_periodic::{DaySeq, days_between};
 
 /// The verdict, if `window` days past both settled days tell of all later days.
 pub fn verdict_by_walk<A: DaySeq, B: DaySeq>(

@@ -17,8 +17,8 @@ use Rattle.rr_model.proofs.OrderLemmas.{day_mono}
 use Rattle.rr_model.proofs.RisingSetLemmas.{Contains-cons_cases, Contains-none}
 use Rattle.rr_model.proofs.SideLemmas.{HoldsOnlyOf-same}
 use Rattle.rr_model.proofs.WholeLemmas.{floor_mod_below}
-use Rattle.rr_word.proofs.SketchLemmas.{repeats}
-use Rattle.rr_word.proofs.WindowLemmas.{turns}
+use Rattle.rr_periodic.proofs.SketchLemmas.{repeats}
+use Rattle.rr_periodic.proofs.WindowLemmas.{turns}
 use Rattle.rr_next.specs.Next.{HasNoneFrom}
 use Rattle.rr_differ.specs.Apart.{IsNextOf}
 use Rattle.rr_differ.specs.Differences.{AreFirstDifferences, IsDifference}

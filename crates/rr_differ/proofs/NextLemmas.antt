@@ -15,7 +15,7 @@ use Rattle.rr_model.specs.declared.verdict.Side.{Side}
 use Rattle.rr_model.proofs.MomentLemmas.{parts_of_moment}
 use Rattle.rr_model.proofs.OrderLemmas.{day_mono}
 use Rattle.rr_model.proofs.SideLemmas.{HoldsOnlyOf-same}
-use Rattle.rr_word.proofs.SketchLemmas.{second_fits}
+use Rattle.rr_periodic.proofs.SketchLemmas.{second_fits}
 use Rattle.rr_decide.specs.Question.{IsFirstDayShown, shown_by}
 use Rattle.rr_decide.proofs.StandsLemmas.{stands_where}
 use Rattle.rr_decide.proofs.WindowLemmas.{equal_window}

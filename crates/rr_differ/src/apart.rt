@@ -12,7 +12,7 @@ ghost use Rattle.rr_differ.specs.Differences.{AreFirstDifferences, ComesBefore, 
 use crate::difference::Difference;
 use rr_model::{Kind, NoMemory, Side, day_part, moment_at};
 use rr_next::next_at;
-use rr_word::DaySeq;
+use rr_periodic::DaySeq;
 use std::alloc::Global;
 
 // Whether one comes before another of the other kind: a date comes before the moments of its day.

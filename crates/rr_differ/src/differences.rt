@@ -8,7 +8,7 @@ use crate::apart::differences_apart;
 use crate::difference::Difference;
 use crate::one_kind::differences_of_one_kind;
 use rr_model::NoMemory;
-use rr_word::DaySeq;
+use rr_periodic::DaySeq;
 use std::alloc::Global;
 
 /// The first occurrences that exactly one of two sets has, in order, each with its side: as many as are asked for, or all if there

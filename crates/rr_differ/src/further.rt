@@ -11,7 +11,7 @@ use crate::difference::Difference;
 use crate::differences::first_differences;
 use crate::next::next_from;
 use rr_model::{NoMemory, Side, moment_at};
-use rr_word::DaySeq;
+use rr_periodic::DaySeq;
 use std::alloc::Global;
 
 /// How many differences after the first are counted at most.

@@ -8,8 +8,8 @@ ghost use Rattle.rr_differ.specs.Next.{AgreeAfter, HaveNoneFrom, IsFirstAfter, I
 use crate::difference::Difference;
 use rr_decide::{first_shown, next_difference};
 use rr_model::{Question, Side, day_part, moment_at, second_part};
+use rr_periodic::DaySeq;
 use rr_times::count_below;
-use rr_word::DaySeq;
 
 // The first second, from this one on, that exactly one of two lists has, and its side.
 fn first_after(xs: &[u32], ys: &[u32], from: u32) -> Option<(u32, Side)>

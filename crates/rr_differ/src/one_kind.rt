@@ -11,7 +11,7 @@ ghost use Rattle.rr_differ.specs.Next.{HaveNoneBefore};
 use crate::difference::Difference;
 use crate::next::next_from;
 use rr_model::{NoMemory, moment_at};
-use rr_word::DaySeq;
+use rr_periodic::DaySeq;
 use std::alloc::Global;
 
 // The lesser of the first occupied days; None if both sequences are empty.

@@ -1,7 +1,7 @@
 mod CountLemmas
 mod CycleLemmas
 mod DrawExamples
-mod FoldLemmas
+mod DayTableLemmas
 mod LimitLemmas
 mod SeriesLemmas
 mod SynchronisedLemmas

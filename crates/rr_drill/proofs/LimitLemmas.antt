@@ -1,8 +1,8 @@
 -- A series that is drawn goes beyond no limit.
 use Rattle.std.proofs.Common.{◌≡◌, ◌≢◌, ℕ, zero, suc, ◌≤◌, Some, List, [], ◌∷◌, length, get_or, All, refl, sym, ap, subst, ◌∙◌, inl, inr, arith}
 use Rattle.std.specs.Prelude.{◌⊎◌, AllPairs, ℤ}
-use Rattle.rr_fold.proofs.KindLemmas.{is_time_set, stands_second, tree_of_kind}
-use Rattle.rr_fold.specs.Judged.{all_limits}
+use Rattle.rr_tabulate.proofs.KindLemmas.{is_time_set, stands_second, tree_of_kind}
+use Rattle.rr_tabulate.specs.Judged.{all_limits}
 use Rattle.rr_model.specs.Series.Cycle.{series_cycle}
 use Rattle.rr_model.specs.Series.FirstRefusal.{IsLimitRefusal}
 use Rattle.rr_model.specs.Series.Limits.{CountsTooFar, IsCountedTooFar, IsTooManyMoments, IsTimeSetBefore, HasTooManyMoments}

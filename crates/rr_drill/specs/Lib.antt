@@ -2,5 +2,5 @@ pub mod Asked
 pub mod Counting
 pub mod Cycles
 pub mod Draws
-pub mod Folds
+pub mod DayTables
 pub mod Summary

@@ -2,7 +2,7 @@
 ghost use Rattle.std.specs.Prelude.{◌≡◌, ◌≤◌, ◌*◌, ◌-◌, ◌/◌, length};
 ghost use Rattle.rr_drill.specs.Asked.{IsVerdictAsked, IsYes};
 ghost use Rattle.rr_drill.specs.Counting.{IsCountOf, IsCountOfPairs, IsOneWhere};
-ghost use Rattle.rr_drill.specs.Folds.{stands};
+ghost use Rattle.rr_drill.specs.DayTables.{stands};
 ghost use Rattle.rr_drill.specs.Summary.{IsSummaryOf};
 
 use crate::Summary;
@@ -16,8 +16,8 @@ fn verdict_on(asked: Asked, a: &DrawnDays, b: &DrawnDays) -> Verdict
     ensures { IsVerdictAsked asked (stands a.now) (stands b.now) result }
 {
     match asked {
-        Asked::Forth(question) => verdict(question, &a.folded, &b.folded),
-        Asked::Back(question) => verdict(question, &b.folded, &a.folded),
+        Asked::Forth(question) => verdict(question, &a.day_table, &b.day_table),
+        Asked::Back(question) => verdict(question, &b.day_table, &a.day_table),
     }
 }
 

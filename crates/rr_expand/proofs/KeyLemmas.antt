@@ -170,8 +170,8 @@ module _ (d e : ℤ) (same : HaveOneDayOfYear d e) where
 
   -- ---- the parts of a rule but BYWEEKNO
 
-  weekday_place-same : (n : ℤ) (k many : ℕ) → 1 ≤ k → k ≤ many → is_weekday_ordinal n d k many ≡ is_weekday_ordinal n e k many
-  weekday_place-same n k many some few =
+  weekday_ordinal-same : (n : ℤ) (k many : ℕ) → 1 ≤ k → k ≤ many → is_weekday_ordinal n d k many ≡ is_weekday_ordinal n e k many
+  weekday_ordinal-same n k many some few =
       let front : rank_from_front d k ≡ rank_from_front e k = rank_from_front_is d k some ∙ sym (rank_from_front_is e k some) in
       let back : rank_from_back d k many ≡ rank_from_back e k many = rank_from_back_is d k many few ∙ sym (rank_from_back_is e k many few) in
       ap (λ (r : ℕ). int_eq n (pos r) || int_eq n (neg_ℤ (pos (rank_from_back d k many)))) front
@@ -180,23 +180,23 @@ module _ (d e : ℤ) (same : HaveOneDayOfYear d e) where
   in_year-same : (n : ℤ) → is_ordinal_of_day n true d ≡ is_ordinal_of_day n true e
   unfolding day_of_year
   in_year-same n =
-      weekday_place-same n (day_of_year d) (days_in_year (year_of d)) (omega arith) (omega (arith, days_into_year_below d))
+      weekday_ordinal-same n (day_of_year d) (days_in_year (year_of d)) (omega arith) (omega (arith, days_into_year_below d))
       ∙ ap (λ k. is_weekday_ordinal n e k (days_in_year (year_of d))) day_of_year-same
       ∙ ap (is_weekday_ordinal n e (day_of_year e)) year-same
 
   in_month-same : (n : ℤ) → is_ordinal_of_day n false d ≡ is_ordinal_of_day n false e
   in_month-same n =
       let date = IsDate-year_of d in
-      weekday_place-same n (day_of_month d) (days_in_month (year_of d) (month_of d)) date.2 date.3
+      weekday_ordinal-same n (day_of_month d) (days_in_month (year_of d) (month_of d)) date.2 date.3
       ∙ ap (λ k. is_weekday_ordinal n e k (days_in_month (year_of d) (month_of d))) day_of_month-same
       ∙ ap (is_weekday_ordinal n e (day_of_month e)) month-same
 
-  in_place-same : (n : ℤ) (in_year : Bool) → is_ordinal_of_day n in_year d ≡ is_ordinal_of_day n in_year e
-  in_place-same n true = in_year-same n
-  in_place-same n false = in_month-same n
+  ordinal_of_day-same : (n : ℤ) (in_year : Bool) → is_ordinal_of_day n in_year d ≡ is_ordinal_of_day n in_year e
+  ordinal_of_day-same n true = in_year-same n
+  ordinal_of_day-same n false = in_month-same n
 
   day_item-same : (in_year : Bool) (item : DayItem) → day_item_holds in_year d item ≡ day_item_holds in_year e item
-  day_item-same in_year item = rw (weekday_of-same, in_place-same item.place in_year) refl
+  day_item-same in_year item = rw (weekday_of-same, ordinal_of_day-same item.ordinal in_year) refl
 
   module _ (rule : Rule) where
     pub by_month-same : by_month_holds rule d ≡ by_month_holds rule e

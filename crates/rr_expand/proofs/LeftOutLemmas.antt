@@ -160,8 +160,8 @@ other_weekday rule start d weekday j is present none =
 
 -- ---- weekdays alone
 
-no_ordinal : (item : DayItem) → has_ordinal item ≡ false → int_eq item.place (pos 0) ≡ true
-no_ordinal item e = not_not (int_eq item.place (pos 0)) e
+no_ordinal : (item : DayItem) → has_ordinal item ≡ false → int_eq item.ordinal (pos 0) ≡ true
+no_ordinal item e = not_not (int_eq item.ordinal (pos 0)) e
   where
     not_not : (b : Bool) → not b ≡ false → b ≡ true
     not_not true h = refl
@@ -173,7 +173,7 @@ plain_items : (in_year : Bool) (d : ℤ) (items : List DayItem) → list_any has
 plain_items in_year d [] e = refl
 plain_items in_year d (item ∷ items) e =
     let parts = or_parts (has_ordinal item) (list_any has_ordinal items) e in
-    ap (λ p. ((item.weekday == weekday_of d) && (p || is_ordinal_of_day item.place in_year d)) || list_any (day_item_holds in_year d) items)
+    ap (λ p. ((item.weekday == weekday_of d) && (p || is_ordinal_of_day item.ordinal in_year d)) || list_any (day_item_holds in_year d) items)
     (no_ordinal item parts.0)
     ∙ ap (λ q. q || list_any (day_item_holds in_year d) items) (and_true (item.weekday == weekday_of d))
     ∙ ap (λ q. (item.weekday == weekday_of d) || q) (plain_items in_year d items parts.1)

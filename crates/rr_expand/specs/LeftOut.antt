@@ -18,7 +18,7 @@ has_weekday weekday item = item.weekday == weekday
 
 -- the item has an ordinal in the month or the year
 abbrev pub has_ordinal : DayItem → Bool
-has_ordinal item = not (int_eq item.place (pos 0))
+has_ordinal item = not (int_eq item.ordinal (pos 0))
 
 -- BYDAY is present, no item has an ordinal, and no other date part is present
 abbrev pub names_weekdays_alone : Rule → Bool

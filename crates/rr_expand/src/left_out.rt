@@ -127,7 +127,7 @@ fn has_ordinals(items: &[DayItem]) -> bool
 fn has_ordinal(item: DayItem) -> bool
     ensures { result ≡ has_ordinal item }
 {
-    item.place != 0
+    item.ordinal != 0
 }
 
 // Whether an item has the weekday.

@@ -16,7 +16,7 @@ use Rattle.rr_model.specs.declared.sketch.Sketch.{Sketch}
 use Rattle.rr_model.proofs.CountLemmas.{one, count_from-suc, count_from-split, count_from-same}
 use Rattle.rr_model.proofs.RisingSetLemmas.{Contains-head, Contains-tail, Contains-none}
 use Rattle.rr_model.proofs.SecondsLemmas.{first_below}
-use Rattle.rr_word.proofs.SketchLemmas.{rising_on, second_fits}
+use Rattle.rr_periodic.proofs.SketchLemmas.{rising_on, second_fits}
 use Rattle.rr_model.proofs.MomentLemmas.{parts_of_moment}
 use Rattle.rr_model.specs.declared.graph.RangeEnd.{RangeEnd}
 use Rattle.rr_model.specs.declared.graph.RangeEnd.TheVariants.{NoEnd, EndDate, Numbered}

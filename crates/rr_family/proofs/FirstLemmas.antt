@@ -26,7 +26,7 @@ use Rattle.rr_model.specs.declared.vcal.FamilyKind.{FamilyKind}
 use Rattle.rr_model.specs.declared.vcal.FamilyKind.TheVariants as family
 use Rattle.rr_model.specs.declared.vcal.VRule.{VRule}
 use Rattle.rr_model.proofs.CountLemmas.{count_from-le}
-use Rattle.rr_word.proofs.OneLeastLemmas.{same_times}
+use Rattle.rr_periodic.proofs.OneLeastLemmas.{same_times}
 use Rattle.rr_family.specs.DaySets.{IsNumbered, IsLastDay, window_days}
 use Rattle.rr_family.specs.GraphProfile.{event_of, pattern_key, key_lt, EndsAs, IsFirstPattern, FirstPatternIsOne}
 use Rattle.rr_family.specs.Lasting.{is_occupied}

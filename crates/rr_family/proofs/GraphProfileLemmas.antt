@@ -20,8 +20,8 @@ use Rattle.rr_model.specs.declared.graph.Range.{Range}
 use Rattle.rr_model.specs.declared.graph.RangeEnd.{RangeEnd}
 use Rattle.rr_model.specs.declared.graph.RangeEnd.TheVariants.{NoEnd, EndDate, Numbered}
 use Rattle.rr_check.proofs.RuleCycleLemmas.{interval_cycle_some}
-use Rattle.rr_word.proofs.OneLeastLemmas.{one_first}
-use Rattle.rr_word.proofs.WindowLemmas.{RepeatsFrom-multiple}
+use Rattle.rr_periodic.proofs.OneLeastLemmas.{one_first}
+use Rattle.rr_periodic.proofs.WindowLemmas.{RepeatsFrom-multiple}
 use Rattle.rr_pattern.proofs.FirstDayLemmas.{found_is_first}
 use Rattle.rr_pattern.proofs.MovedStartLemmas.{moved_days}
 use Rattle.rr_pattern.proofs.PatternParts.{IsCountedRange, IsFirstDay}

@@ -5,9 +5,9 @@ use Rattle.rr_model.specs.Whole.Periodic.{RepeatsFrom}
 use Rattle.rr_model.specs.Rule.Validity.{is_absent}
 use Rattle.rr_model.specs.Sets.Sketch.{times_on}
 use Rattle.rr_model.specs.declared.sketch.Sketch.{Sketch}
-use Rattle.rr_word.proofs.WindowLemmas.{RepeatsFrom-multiple, window_lasts}
+use Rattle.rr_periodic.proofs.WindowLemmas.{RepeatsFrom-multiple, window_lasts}
 use Rattle.rr_model.specs.Sets.Least.{IsEventualPeriod}
-use Rattle.rr_word.proofs.PeriodLemmas.{least_divides, repeats_from_start}
+use Rattle.rr_periodic.proofs.PeriodLemmas.{least_divides, repeats_from_start}
 use Rattle.rr_family.specs.Shift.{RepeatsEverywhere}
 use Rattle.rr_family.specs.Taking.{AgreeWithin, some_gives, taken_places}
 use Rattle.rr_family.specs.Lasting.{is_occupied, at_second, AgreeForEver, EndlessHasCycle, FitsCycle, SoundLasts, AgreementOnCycleLasts, TakingLosesNoEndless}

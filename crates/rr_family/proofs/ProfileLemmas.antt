@@ -25,7 +25,7 @@ use Rattle.rr_model.specs.declared.rule.End.TheVariants.{Never, Until, Count, Bo
 use Rattle.rr_model.specs.declared.sketch.Sketch.{Sketch}
 use Rattle.rr_check.proofs.RuleCycleLemmas.{interval_cycle_some}
 use Rattle.rr_model.proofs.WholeLemmas.{floor_whole}
-use Rattle.rr_word.proofs.WindowLemmas.{turns, RepeatsFrom-multiple}
+use Rattle.rr_periodic.proofs.WindowLemmas.{turns, RepeatsFrom-multiple}
 use Rattle.rr_model.specs.Sets.Least.{IsEndless}
 use Rattle.rr_model.specs.Vcal.Counterpart.{family_freq}
 use Rattle.rr_model.specs.Vcal.Members.{item_has_day, is_vcal_candidate, vcal_members_to}

@@ -13,7 +13,7 @@ use Rattle.rr_model.specs.Whole.{divides}
 use Rattle.rr_model.proofs.CalendarLemmas.{IsDate-year_of, days_in_year_bounds, days_in_month_bounds, days_into_year_below, weekday_of_below}
 use Rattle.rr_parts.proofs.RankLemmas.{rank_from_front_is, rank_from_back_is}
 use Rattle.rr_model.proofs.TestLemmas.{int_eq-same}
-use Rattle.rr_word.proofs.ShapeLemmas.{int_eq-differ}
+use Rattle.rr_periodic.proofs.ShapeLemmas.{int_eq-differ}
 use Rattle.rr_model.specs.Vcal.Members.{family_unit, item_holds}
 use Rattle.rr_model.specs.declared.vcal.FamilyKind.{FamilyKind}
 use Rattle.rr_model.specs.declared.vcal.FamilyKind.TheVariants as family

@@ -14,10 +14,10 @@ use Rattle.rr_model.specs.Whole.Count.{count_from}
 use Rattle.rr_model.specs.declared.kind.Kind.{Kind}
 use Rattle.rr_model.specs.declared.sketch.Sketch.{Sketch}
 use Rattle.rr_model.proofs.CountLemmas.{one, count_from-suc, count_from-split, count_from-empty}
-use Rattle.rr_word.specs.Stretches.{AreFree}
+use Rattle.rr_periodic.specs.Stretches.{AreFree}
 use Rattle.rr_model.proofs.MomentLemmas.{parts_of_moment}
-use Rattle.rr_word.proofs.SketchLemmas.{repeats_from, second_fits}
-use Rattle.rr_word.proofs.WindowLemmas.{window_lasts}
+use Rattle.rr_periodic.proofs.SketchLemmas.{repeats_from, second_fits}
+use Rattle.rr_periodic.proofs.WindowLemmas.{window_lasts}
 use Rattle.rr_family.specs.DaySets.{IsOneSecond}
 use Rattle.rr_family.specs.Lasting.{at_second, is_occupied}
 use Rattle.rr_family.specs.Walks.{IsAtSecond, IsNextWithin, IsSecondOf}

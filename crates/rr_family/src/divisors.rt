@@ -13,7 +13,7 @@ use crate::window::{Window, WindowEnd, day_after, days_known, days_through, next
 use rr_cal::{Day, unit_of_day};
 use rr_model::Freq;
 use rr_num::gcd;
-use rr_word::DaySeq;
+use rr_periodic::DaySeq;
 
 // How many days more of an endless set are read than the first whole period, so that short periods are told apart by months
 // and years.

@@ -11,7 +11,7 @@ ghost use Rattle.rr_model.specs.Sets.Sketch.{IsFirstDay, IsNearDay, times_on};
 ghost use Rattle.rr_model.specs.Whole.Count.{count_from};
 
 use rr_model::{FIRST_DAY, Kind};
-use rr_word::{DaySeq, least_period, least_start};
+use rr_periodic::{DaySeq, least_period, least_start};
 
 /// Where a set ends, or how it repeats.
 #[derive(Clone, Copy, Debug, PartialEq, Eq)]

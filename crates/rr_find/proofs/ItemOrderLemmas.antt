@@ -11,7 +11,7 @@ use Rattle.rr_family.specs.Profile.{places_from, all_places, in_order}
 use Rattle.rr_family.proofs.OrderLemmas.{from_front, from_back}
 use Rattle.rr_find.specs.ByCounts.{items_of}
 use Rattle.rr_model.proofs.TestLemmas.{int_eq-same}
-use Rattle.rr_word.proofs.ShapeLemmas.{int_eq-differ}
+use Rattle.rr_periodic.proofs.ShapeLemmas.{int_eq-differ}
 use Rattle.rr_model.specs.Rising.{with_value}
 use Rattle.rr_model.specs.Vcal.Items.{item_lt, is_place_before}
 use Rattle.rr_model.specs.declared.item.Item.{Item}

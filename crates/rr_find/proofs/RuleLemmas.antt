@@ -24,9 +24,9 @@ use Rattle.rr_model.specs.declared.vcal.FamilyKind.{FamilyKind}
 use Rattle.rr_model.specs.declared.vcal.VRule.{VRule}
 use Rattle.rr_model.proofs.MomentLemmas.{day_part-moment_at, second_part-moment_at}
 use Rattle.rr_model.proofs.CountLemmas.{count_from-le}
-use Rattle.rr_word.proofs.OneLeastLemmas.{one_first}
+use Rattle.rr_periodic.proofs.OneLeastLemmas.{one_first}
 use Rattle.rr_model.proofs.TestLemmas.{int_eq-same}
-use Rattle.rr_word.proofs.SketchLemmas.{second_fits}
+use Rattle.rr_periodic.proofs.SketchLemmas.{second_fits}
 use Rattle.rr_family.specs.DaySets.{IsOneSecond, window_days}
 use Rattle.rr_family.specs.Lasting.{is_occupied, at_second, FitsCycle, HasCycle}
 use Rattle.rr_family.specs.Places.{place_has_day}

@@ -13,7 +13,7 @@ use crate::tallies::tally;
 use rr_family::{Window, WindowEnd};
 use rr_model::{FamilyKind, Freq, Items, NoMemory};
 use rr_num::interval_cycle;
-use rr_word::DaySeq;
+use rr_periodic::DaySeq;
 use std::alloc::Global;
 
 /// The items of a rule of this kind and interval that has the set, or none if no such rule has it.

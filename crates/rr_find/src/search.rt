@@ -11,7 +11,7 @@ use crate::found::Found;
 use crate::lists::{family_freq, list_of};
 use rr_family::{Divisors, Window, WindowEnd, divisors_of, window_of};
 use rr_model::{End, FamilyKind, Items, NoMemory, VRule, moment_at};
-use rr_word::DaySeq;
+use rr_periodic::DaySeq;
 use std::alloc::Global;
 
 // The kinds in the order in which they are tried.

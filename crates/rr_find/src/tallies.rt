@@ -9,7 +9,7 @@ ghost use Rattle.rr_model.specs.Sets.Sketch.{IsNearDay};
 use rr_cal::Day;
 use rr_family::{is_occupied, sort_of_day};
 use rr_model::FamilyKind;
-use rr_word::DaySeq;
+use rr_periodic::DaySeq;
 
 /// How many days of each sort a window has; a kind that tells fewer sorts apart uses the first few.
 #[derive(Drop)]

@@ -16,7 +16,7 @@ use std::marker::Model;
 /// What the member `recurrence` of an event states (Microsoft Graph, patternedRecurrence).
 #[derive(Drop)]
 pub(crate) struct Recurrence {
-    /// Which days of which periods repeat.
+    /// Which days of which units repeat.
     pub(crate) pattern: Pattern,
     /// From which day on, and until when.
     pub(crate) range: Range,

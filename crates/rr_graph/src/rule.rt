@@ -101,7 +101,10 @@ fn days_of_sum(alloc: Global, days: u8) -> Result<DayItems, NoMemory>
     let mut items = DayItems::new(alloc);
     for weekday in 0..7 {
         if is_day_in(days, weekday) {
-            items.put(DayItem { place: 0, weekday })?;
+            items.put(DayItem {
+                ordinal: 0,
+                weekday,
+            })?;
         }
     }
     Ok(items)

@@ -5,7 +5,7 @@ use Rattle.std.proofs.lemmas.Int.{ints, by_lt_z}
 use Rattle.std.proofs.lemmas.Bool.{cases_eq, false≢true}
 use Rattle.rr_check.proofs.RuleCycleLemmas.{interval_cycle_some}
 use Rattle.rr_model.specs.Graph.Counterpart.{form_freq}
-use Rattle.rr_model.specs.Graph.Occurrences.{form_holds, is_pattern_day, period_of}
+use Rattle.rr_model.specs.Graph.Occurrences.{form_holds, is_pattern_day, form_unit}
 use Rattle.rr_model.specs.Graph.Uses.{uses_first_day}
 use Rattle.rr_model.specs.Graph.Validity.{IsValidPattern, LiesIfUsed}
 use Rattle.rr_model.specs.Moment.Units.{is_whole_days, unit_number}
@@ -41,15 +41,15 @@ use Rattle.rr_graphfind.specs.Search.{EndsAfter, FitsEnd, Matches, days_compared
 use Rattle.rr_graphfind.proofs.MemberLemmas.{counts_in}
 use Rattle.rr_graphfind.proofs.OrderLemmas.{less_first, less_rest, type_bounds}
 
--- ---- periods
+-- ---- units
 
-period_is : (f : Form) (w : ℕ) (d : ℤ) → unit_number (form_freq f) w Days d ≡ period_of f w d
-period_is form.Daily w d = refl
-period_is form.Weekly w d = refl
-period_is form.AbsoluteMonthly w d = refl
-period_is form.RelativeMonthly w d = refl
-period_is form.AbsoluteYearly w d = refl
-period_is form.RelativeYearly w d = refl
+unit_is : (f : Form) (w : ℕ) (d : ℤ) → unit_number (form_freq f) w Days d ≡ form_unit f w d
+unit_is form.Daily w d = refl
+unit_is form.Weekly w d = refl
+unit_is form.AbsoluteMonthly w d = refl
+unit_is form.RelativeMonthly w d = refl
+unit_is form.AbsoluteYearly w d = refl
+unit_is form.RelativeYearly w d = refl
 
 whole : (f : Form) → IsTrue (is_whole_days (form_freq f))
 whole form.Daily = refl
@@ -87,10 +87,10 @@ form_same form.RelativeMonthly p interval first_day d = refl
 form_same form.AbsoluteYearly p interval first_day d = refl
 form_same form.RelativeYearly p interval first_day d = refl
 
--- if both periods count, the day is one of both or of none
+-- if both units count, the day is one of both or of none
 same_day : (p : Pattern) (interval first_day : ℕ) (first d : ℤ)
-    → divides interval (period_of p.form first_day d -ℤ period_of p.form first_day first) ≡ true
-    → divides p.interval (period_of p.form p.first_day d -ℤ period_of p.form p.first_day first) ≡ true
+    → divides interval (form_unit p.form first_day d -ℤ form_unit p.form first_day first) ≡ true
+    → divides p.interval (form_unit p.form p.first_day d -ℤ form_unit p.form p.first_day first) ≡ true
     → is_pattern_day (with_start p interval first_day) first d ≡ is_pattern_day p first d
 unfolding is_pattern_day
 same_day p interval first_day first d a b =
@@ -127,8 +127,8 @@ module _ (s : Sketch) (w : Window) (has : HasWindow s w) (p : Pattern) (m : Matc
   in_unit : (d : ℤ) → w.first ≤ℤ d → is_occupied s d ≡ true
       → divides p.interval (unit_number (form_freq p.form) p.first_day Days d -ℤ unit_number (form_freq p.form) p.first_day Days w.first) ≡ true
   in_unit d l o =
-      ap (λ x. divides p.interval (x -ℤ unit_number (form_freq p.form) p.first_day Days w.first)) (period_is p.form p.first_day d)
-      ∙ ap (λ x. divides p.interval (period_of p.form p.first_day d -ℤ x)) (period_is p.form p.first_day w.first)
+      ap (λ x. divides p.interval (x -ℤ unit_number (form_freq p.form) p.first_day Days w.first)) (unit_is p.form p.first_day d)
+      ∙ ap (λ x. divides p.interval (form_unit p.form p.first_day d -ℤ x)) (unit_is p.form p.first_day w.first)
       ∙ counts_in p w.first d (on_pattern d l o)
 
   week_start : p.first_day < 7
@@ -168,7 +168,7 @@ module _ (s : Sketch) (w : Window) (has : HasWindow s w) (p : Pattern) (m : Matc
         interval_divides s w.first known.days divisors (form_freq p.form) p.first_day p.interval known.are (whole p.form) week_start
         m.agrees.valid.interval_low in_unit
 
-    -- if all days up to the last one lie in one period, the pattern of interval 1 matches too
+    -- if all days up to the last one lie in one unit, the pattern of interval 1 matches too
     pub interval_one_matches : (last : ℤ) (many : ℕ) → w.end ≡ Last last many → divisor_of divisors (form_freq p.form) p.first_day ≡ 0
         → Matches s w (with_start p 1 p.first_day)
     interval_one_matches last many is zero = record {
@@ -186,7 +186,7 @@ module _ (s : Sketch) (w : Window) (has : HasWindow s w) (p : Pattern) (m : Matc
         agree = subst (λ end. AgreeWithin (is_pattern_day (with_start p 1 p.first_day) w.first) (is_occupied s) w.first (days_compared end w.first (form_cycle p.form 1)))
             (sym is) (λ d l h.
             let before : d ≤ℤ last = omega (arith, ints, h, late) in
-            let same = in_first_period d l before in
+            let same = in_first_unit d l before in
             same_day p 1 p.first_day w.first d (divides_none 1 _ _ same) (divides_none p.interval _ _ same) ∙ agree d l h);
       };
     }
@@ -203,17 +203,17 @@ module _ (s : Sketch) (w : Window) (has : HasWindow s w) (p : Pattern) (m : Matc
         agree : AgreeWithin (is_pattern_day p w.first) (is_occupied s) w.first (window_days w.first last)
         agree = subst (λ end. AgreeWithin (is_pattern_day p w.first) (is_occupied s) w.first (days_compared end w.first cycle)) is m.agrees.agree
 
-        in_first_period : (d : ℤ) → w.first ≤ℤ d → d ≤ℤ last → period_of p.form p.first_day d ≡ period_of p.form p.first_day w.first
-        in_first_period d l h =
-            sym (period_is p.form p.first_day d)
+        in_first_unit : (d : ℤ) → w.first ≤ℤ d → d ≤ℤ last → form_unit p.form p.first_day d ≡ form_unit p.form p.first_day w.first
+        in_first_unit d l h =
+            sym (unit_is p.form p.first_day d)
             ∙ one_unit s w.first last known.days divisors (form_freq p.form) p.first_day known.are (whole p.form) week_start zero ends.0.occupied late
             (omega (arith, ints, reaches, late)) d l h
-            ∙ period_is p.form p.first_day w.first
+            ∙ unit_is p.form p.first_day w.first
 
 -- ---- none with these members
 
 module _ (s : Sketch) (w : Window) (p : Pattern) (has : HasWindow s w) (valid : IsValidPattern p) (before : NoneBefore (Matches s w) p) where
-  -- of the patterns with its first three members none matches, if the divisor of their periods leaves the interval out
+  -- of the patterns with its first three members none matches, if the divisor of their units leaves the interval out
   pub none_left_out : (divisors : Divisors) (freq : Freq) → HasDivisors s w divisors → freq ≡ form_freq p.form
       → IsLeftOut w.end (divisor_of divisors freq p.first_day) p.interval → NoneWith 3 p (Matches s w)
   none_left_out divisors freq known is out q same m = by_case out

@@ -24,8 +24,8 @@ use Rattle.rr_model.proofs.YearLemmas.{four_digit_bounds}
 use Rattle.rr_check.proofs.RuleCycleLemmas.{interval_cycle_some}
 use Rattle.rr_pattern.proofs.FirstDayLemmas.{search_found}
 use Rattle.rr_model.proofs.MomentLemmas.{parts_of_moment}
-use Rattle.rr_word.proofs.OneLeastLemmas.{one_first}
-use Rattle.rr_word.proofs.SketchLemmas.{second_fits}
+use Rattle.rr_periodic.proofs.OneLeastLemmas.{one_first}
+use Rattle.rr_periodic.proofs.SketchLemmas.{second_fits}
 use Rattle.rr_family.specs.DaySets.{IsOneSecond, window_days}
 use Rattle.rr_family.specs.GraphProfile.{EndsAs, IsFirstPattern, IsPatternOf, NoneBeforePattern, event_of, range_from}
 use Rattle.rr_family.specs.Lasting.{is_occupied}

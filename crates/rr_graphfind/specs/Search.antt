@@ -12,7 +12,7 @@ use Rattle.rr_family.specs.declared.window.WindowEnd.{WindowEnd}
 use Rattle.rr_family.specs.declared.window.WindowEnd.TheVariants.{Last, Cycle}
 use Rattle.rr_graphfind.specs.PatternDays.{HasPatternDays}
 use Rattle.rr_graphfind.specs.declared.agreement.Stretch.{Stretch}
-use Rattle.rr_model.specs.Graph.Occurrences.{period_of}
+use Rattle.rr_model.specs.Graph.Occurrences.{form_unit}
 use Rattle.rr_model.specs.Graph.Validity.{IsValidPattern}
 use Rattle.rr_model.specs.Moment.{moment_at}
 use Rattle.rr_model.specs.Whole.{divides}
@@ -27,9 +27,9 @@ pub record Agrees (s : Sketch) (first : ℤ) (days : ℕ) (pattern : Pattern) : 
   pub valid : IsValidPattern pattern
   pub agree : HasPatternDays s pattern first days
 
--- the period of the day counts from that of the first day on
+-- the unit of the day counts from that of the first day on
 abbrev pub counts_on : Pattern → ℤ → ℤ → Bool
-counts_on pattern first d = divides pattern.interval (period_of pattern.form pattern.first_day d -ℤ period_of pattern.form pattern.first_day first)
+counts_on pattern first d = divides pattern.interval (form_unit pattern.form pattern.first_day d -ℤ form_unit pattern.form pattern.first_day first)
 
 -- if a set is endless, its least period divides the cycle and its least start is the first day
 abbrev pub FitsEnd : WindowEnd → ℤ → ℕ → Type 0

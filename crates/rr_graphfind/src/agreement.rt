@@ -10,7 +10,7 @@ use rr_cal::Day;
 use rr_family::is_occupied;
 use rr_model::Pattern;
 use rr_pattern::is_pattern_day;
-use rr_word::DaySeq;
+use rr_periodic::DaySeq;
 
 /// The days of a set on which patterns are compared with it.
 #[derive(Clone, Copy)]

@@ -19,7 +19,7 @@ use rr_family::{Divisors, Window, WindowEnd, is_occupied};
 use rr_model::{Form, Pattern};
 use rr_num::interval_cycle;
 use rr_pattern::form_freq;
-use rr_word::DaySeq;
+use rr_periodic::DaySeq;
 
 /// The first two occupied days of a set.
 #[derive(Clone, Copy)]

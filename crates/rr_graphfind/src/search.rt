@@ -12,7 +12,7 @@ use crate::next::{least_pattern, pattern_after};
 use crate::refusal::{FirstDays, refusal};
 use rr_family::{Divisors, Window, WindowEnd, divisors_of, window_of};
 use rr_model::{Form, GraphEvent, Pattern, Range, RangeEnd, Repeat, moment_at};
-use rr_word::DaySeq;
+use rr_periodic::DaySeq;
 
 /// The event of Microsoft Graph that has the occurrences of a set; None exactly if no pattern and range have them.
 ///

@@ -13,7 +13,7 @@ use crate::start::{best_start, take_before};
 use crate::tail::{first_within, take_tail};
 use crate::target::Target;
 use rr_model::{GraphEvent, NoMemory, RangeEnd, Seconds};
-use rr_word::DaySeq;
+use rr_periodic::DaySeq;
 use std::alloc::Global;
 
 // The least gain for which a pattern is taken; less are single days.

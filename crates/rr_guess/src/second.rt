@@ -10,7 +10,7 @@ use crate::target::Target;
 use rr_cal::Day;
 use rr_model::{Form, Kind, MAX_CYCLE_DAYS, NoMemory};
 use rr_num::lcm_within;
-use rr_word::{DaySeq, least_period, least_start};
+use rr_periodic::{DaySeq, least_period, least_start};
 use std::alloc::Global;
 
 // The days of 400 years, which are whole weeks and 4,800 months.

@@ -19,7 +19,7 @@ pub enum SectionPiece {
     UndecidedNone,
     /// The start of the section of events without occurrences that one file alone has.
     CancelledStart,
-    /// The start of the section of equal events, and of their list, which is folded.
+    /// The start of the section of equal events, and of their list, which is closed until it is opened.
     EqualStart,
     /// An event of a list; its title follows.
     ItemStart,

@@ -6,7 +6,7 @@ use Rattle.rr_kinds.specs.Form.{AreOrdinalsOf, day_item}
 
 -- a value is the weekday with the place as its ordinal
 abbrev pub IsOrdinalOf : ℕ → DayItem → ℤ → Type 0
-IsOrdinalOf weekday item place = (item.place ≡ place) × (item.weekday ≡ weekday) × (int_eq place (pos 0) ≡ false)
+IsOrdinalOf weekday item place = (item.ordinal ≡ place) × (item.weekday ≡ weekday) × (int_eq place (pos 0) ≡ false)
 
 -- the k-th values are
 abbrev pub IsOrdinalAt : ℕ → List DayItem → List ℤ → ℕ → Type 0

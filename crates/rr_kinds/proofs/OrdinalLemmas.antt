@@ -59,7 +59,7 @@ empty (x ∷ xs) e = absurd (cc)
 -- ---- the items
 
 -- an item whose ordinal is not 0 holds of a day of its weekday that has one of the two ranks
-item_holds : (d : ℤ) (item : DayItem) (p : ℤ) (w : ℕ) → item.place ≡ p → item.weekday ≡ w → int_eq p (pos 0) ≡ false → w ≡ weekday_of d
+item_holds : (d : ℤ) (item : DayItem) (p : ℤ) (w : ℕ) → item.ordinal ≡ p → item.weekday ≡ w → int_eq p (pos 0) ≡ false → w ≡ weekday_of d
     → day_item_holds false d item
     ≡ (int_eq p (pos (rank_from_front d (day_of_month d))) || int_eq p (neg_ℤ (pos (rank_from_back d (day_of_month d) (days_in_month (year_of d) (month_of d))))))
 item_holds d item p w place weekday some own =

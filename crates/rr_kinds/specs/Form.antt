@@ -73,13 +73,13 @@ pub record HaveSameParts (a b : Rule) : Type 0 where
 
 -- a value of BYDAY
 abbrev pub day_item : ℤ → ℕ → DayItem
-day_item place weekday = record { place = place; weekday = weekday }
+day_item place weekday = record { ordinal = place; weekday = weekday }
 
 -- each value of BYDAY is this weekday with the ordinal that is the place beside it, which is not 0
 abbrev pub AreOrdinalsOf : ℕ → List DayItem → List ℤ → Type 0
 AreOrdinalsOf weekday [] [] = ⊤
 AreOrdinalsOf weekday (item ∷ items) (place ∷ places) =
-    (item.place ≡ place) × (item.weekday ≡ weekday) × (int_eq place (pos 0) ≡ false) × AreOrdinalsOf weekday items places
+    (item.ordinal ≡ place) × (item.weekday ≡ weekday) × (int_eq place (pos 0) ≡ false) × AreOrdinalsOf weekday items places
 AreOrdinalsOf weekday items places = ⊥
 
 -- the days are one weekday without an ordinal, and the items are the same with the places as ordinals

@@ -125,15 +125,15 @@ fn are_ordinals(items: &[DayItem], days: &[DayItem], places: &[i16]) -> bool
 
 // Whether a value of BYDAY is each day of its weekday.
 fn is_without_ordinal(item: DayItem) -> bool
-    ensures { IsTrue result ↔ item.place ≡ pos 0 }
+    ensures { IsTrue result ↔ item.ordinal ≡ pos 0 }
 {
-    item.place == 0
+    item.ordinal == 0
 }
 
 // Whether a value of BYDAY is this weekday with this ordinal, which is not 0.
 fn is_ordinal(item: DayItem, place: i16, weekday: u8) -> bool
     ensures { IsTrue result
-        ↔ ((item.place ≡ place) × (item.weekday ≡ weekday) × (int_eq place (pos 0) ≡ false)) }
+        ↔ ((item.ordinal ≡ place) × (item.weekday ≡ weekday) × (int_eq place (pos 0) ≡ false)) }
 {
-    i16::from(item.place) == place && item.weekday == weekday && place != 0
+    i16::from(item.ordinal) == place && item.weekday == weekday && place != 0
 }

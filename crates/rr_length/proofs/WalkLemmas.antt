@@ -15,7 +15,7 @@ use Rattle.rr_model.proofs.WholeLemmas.{floor_whole}
 use Rattle.rr_model.proofs.OrderLemmas.{day_mono}
 use Rattle.rr_model.proofs.RisingSetLemmas.{Contains-none, Rises-tail}
 use Rattle.rr_model.proofs.TestLemmas.{int_eq-same}
-use Rattle.rr_word.proofs.ShapeLemmas.{int_eq-differ}
+use Rattle.rr_periodic.proofs.ShapeLemmas.{int_eq-differ}
 use Rattle.rr_next.specs.Next.{HasNoneFrom, IsBelow, IsNextAt}
 use Rattle.rr_length.specs.Length.{is_same_length}
 use Rattle.rr_length.specs.Lengths.{HasNearDates, IsFirstOther, IsNearDate, Lengths, length_at, length_by, length_or, longest_at, occurs_in}

@@ -8,7 +8,7 @@ use crate::lengths::{Dated, KeyLengths};
 use crate::order::rising_of;
 use crate::walk::{Both, other_from};
 use rr_model::{NoMemory, moment_at};
-use rr_word::DaySeq;
+use rr_periodic::DaySeq;
 use std::alloc::Global;
 
 /// The first occurrence that has two lengths.

@@ -10,7 +10,7 @@ use crate::lengths::Dated;
 use crate::other::OtherLength;
 use crate::turn::{first_date, taken_at};
 use rr_next::next_at;
-use rr_word::DaySeq;
+use rr_periodic::DaySeq;
 
 /// A length of A, and one of B.
 #[derive(Clone, Copy)]

@@ -13,7 +13,7 @@ use Rattle.rr_model.specs.declared.rule.Freq.TheVariants.{Hourly, Weekly, Monthl
 use Rattle.rr_model.specs.declared.rule.Rule.{Rule}
 
 abbrev item : ℤ → ℕ → DayItem
-item place weekday = record { place = place; weekday = weekday }
+item ordinal weekday = record { ordinal = ordinal; weekday = weekday }
 
 -- the third of the Tuesdays, Wednesdays and Thursdays of a month
 abbrev third_of_three : Rule

@@ -78,7 +78,7 @@ both_ends = refl
 -- the third of the Tuesdays, Wednesdays and Thursdays of a month: 4 September, 7 October and 6 November are the first three
 abbrev third_of_three : Rule
 third_of_three = record (ending Monthly Never) {
-  by_day = record { place = pos 0; weekday = 1 } ∷ record { place = pos 0; weekday = 2 } ∷ record { place = pos 0; weekday = 3 } ∷ [];
+  by_day = record { ordinal = pos 0; weekday = 1 } ∷ record { ordinal = pos 0; weekday = 2 } ∷ record { ordinal = pos 0; weekday = 3 } ∷ [];
   by_set_pos = pos 3 ∷ [];
 }
 

@@ -149,7 +149,7 @@ int_same a b = grind (arith, ints)
 nat_same : (a b : ℕ) → is_lt (nat_cmp a b) ≡ nat_lt a b
 nat_same a b = grind (arith, nat_tests)
 
-pub day_item_same : (a b : DayItem) → is_lt (ordering_then (int_cmp a.place b.place) (nat_cmp a.weekday b.weekday)) ≡ day_item_lt a b
+pub day_item_same : (a b : DayItem) → is_lt (ordering_then (int_cmp a.ordinal b.ordinal) (nat_cmp a.weekday b.weekday)) ≡ day_item_lt a b
 day_item_same a b = grind (arith, ints, nat_tests)
 
 pub int_order : below_by int_cmp ≡ int_lt

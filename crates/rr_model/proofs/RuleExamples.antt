@@ -9,10 +9,10 @@ use Rattle.rr_model.specs.declared.rule.DayItem.{DayItem}
 
 -- the last Friday
 abbrev last_friday : List DayItem
-last_friday = record { place = negsuc 0; weekday = 4 } ∷ []
+last_friday = record { ordinal = negsuc 0; weekday = 4 } ∷ []
 
 abbrev mondays : List DayItem
-mondays = record { place = pos 0; weekday = 0 } ∷ []
+mondays = record { ordinal = pos 0; weekday = 0 } ∷ []
 
 daily_by_year_day : is_allowed (record (plain_rule Daily 1) { by_year_day = pos 1 ∷ [] }) ≡ false
 daily_by_year_day = refl

@@ -22,4 +22,4 @@ below_by cmp a b = is_lt (cmp a b)
 
 -- one value of BYDAY is below another by ordinal, then by weekday
 abbrev pub day_item_lt : DayItem → DayItem → Bool
-day_item_lt a b = int_lt a.place b.place || (int_le a.place b.place && nat_lt a.weekday b.weekday)
+day_item_lt a b = int_lt a.ordinal b.ordinal || (int_le a.ordinal b.ordinal && nat_lt a.weekday b.weekday)

@@ -62,8 +62,8 @@ pub enum End {
 /// One value of BYDAY (RFC 5545, section 3.3.10).
 #[derive(Clone, Copy, Debug, PartialEq, Eq, PartialOrd, Ord)]
 pub struct DayItem {
-    /// Which of these weekdays of the month or the year, from the back if negative; 0 for each.
-    pub place: i8,
+    /// Its ordinal: which of these weekdays of the month or the year, from the back if negative; 0 for each.
+    pub ordinal: i8,
     /// The weekday, from 0 for Monday.
     pub weekday: u8,
 }

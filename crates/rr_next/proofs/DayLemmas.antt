@@ -4,9 +4,9 @@ use Rattle.std.proofs.lemmas.Bool.{cases_lt}
 use Rattle.std.proofs.lemmas.Int.{ints, by_lt_z}
 use Rattle.rr_model.specs.Sets.Sketch.{IsValidSketch, times_on}
 use Rattle.rr_model.specs.declared.sketch.Sketch.{Sketch}
-use Rattle.rr_word.specs.Stretches.{AreFree}
-use Rattle.rr_word.proofs.SketchLemmas.{repeats, repeats_from}
-use Rattle.rr_word.proofs.WindowLemmas.{window_lasts}
+use Rattle.rr_periodic.specs.Stretches.{AreFree}
+use Rattle.rr_periodic.proofs.SketchLemmas.{repeats, repeats_from}
+use Rattle.rr_periodic.proofs.WindowLemmas.{window_lasts}
 use Rattle.std.specs.Prelude.{IfNone, IfSome, None}
 use Rattle.rr_next.specs.Next.{AreFreeFrom, IsBelow, IsSearchEnd, IsSoon}
 

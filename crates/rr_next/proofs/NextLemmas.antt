@@ -17,7 +17,7 @@ use Rattle.rr_model.proofs.OrderLemmas.{day_mono}
 use Rattle.rr_model.proofs.RisingSetLemmas.{rising_at}
 use Rattle.rr_model.proofs.WholeLemmas.{floor_whole}
 use Rattle.rr_times.specs.Split.{SplitsAt}
-use Rattle.rr_word.proofs.SketchLemmas.{rising_on, second_fits}
+use Rattle.rr_periodic.proofs.SketchLemmas.{rising_on, second_fits}
 use Rattle.rr_next.specs.Next.{AreFreeFrom, HasNoneFrom, IsBelow, IsNextAt, IsNextDay, IsSoon, stop_of}
 
 -- ---- occurrences of one day

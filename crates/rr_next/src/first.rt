@@ -12,7 +12,7 @@ ghost use Rattle.rr_next.specs.Window.{between, from_on};
 use crate::next::next_at;
 use crate::number::{Moment, number_from};
 use rr_model::NoMemory;
-use rr_word::DaySeq;
+use rr_periodic::DaySeq;
 use std::alloc::Global;
 
 // Whether a number lies below the end, if there is one.

@@ -3,12 +3,12 @@ ghost use Rattle.std.specs.Prelude.{◌≡◌, ◌≤◌, ◌⊎◌, [], IfSome,
 ghost use Rattle.rr_model.specs.Bounds.{earliest_near, earliest_taken, latest_taken};
 ghost use Rattle.rr_model.specs.Moment.{day_part};
 ghost use Rattle.rr_model.specs.Sets.Sketch.{IsNearDay, times_on};
-ghost use Rattle.rr_word.specs.Stretches.{AreFree};
+ghost use Rattle.rr_periodic.specs.Stretches.{AreFree};
 ghost use Rattle.rr_next.specs.Next.{AreFreeFrom, HasNoneFrom, IsNextAt, IsNextDay, IsSearchEnd, IsSoon, stop_of};
 
 use rr_model::{Kind, day_part, moment_at, second_part};
+use rr_periodic::DaySeq;
 use rr_times::count_below;
-use rr_word::DaySeq;
 
 // For how many days in a row from one on, of at most `most`, none is occupied; 0 if the day itself is.
 fn free_ahead<A: DaySeq>(seq: &A, day: i64, most: u64) -> u64

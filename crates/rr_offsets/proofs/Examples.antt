@@ -17,7 +17,7 @@ use Rattle.rr_offsets.specs.Steady.{is_steady, is_steady_rule, year_3000}
 
 -- the last Sunday of a month of each year
 abbrev last_sunday : ℤ → Rule
-last_sunday month = record (plain_rule Yearly 1) { by_month = month ∷ []; by_day = record { place = negsuc 0; weekday = 6 } ∷ [] }
+last_sunday month = record (plain_rule Yearly 1) { by_month = month ∷ []; by_day = record { ordinal = negsuc 0; weekday = 6 } ∷ [] }
 
 -- moments from a start on, by one rule
 abbrev from_start : ℤ → Rule → Series

@@ -42,13 +42,13 @@ module _ (q : ℤ) (c : ℕ) (some : 1 ≤ c) where
       record { count = n / c; far = omega (arith, ints, e); late = omega (arith, ints); early = omega (arith, ints, b) }
 
   -- the moment of the first cycle
-  record Folded (u : ℤ) : Type 0 where
+  record Turned (u : ℤ) : Type 0 where
     moment : ℤ
     is : moment_in_cycle q c u ≡ moment
     in_cycle : IsInCycle q c u moment
 
-  folded : (u : ℤ) → q ≤ℤ u → Folded u
-  folded u l =
+  turned : (u : ℤ) → q ≤ℤ u → Turned u
+  turned u l =
       let n = nat_abs (u -ℤ q) in
       let d : u -ℤ q ≡ pos n = omega (arith, ints, l) in
       let e : q +ℤ pos n ≡ u = omega (arith, ints, l) in
@@ -56,18 +56,18 @@ module _ (q : ℤ) (c : ℕ) (some : 1 ≤ c) where
       record { moment = q +ℤ pos (n % c); is = rw (f, d) refl; in_cycle = subst (λ x. IsInCycle q c x (q +ℤ pos (n % c))) e (after n) }
 
   -- a moment of the first cycle lies before its end
-  folded_early : (u : ℤ) → moment_in_cycle q c u <ℤ (q +ℤ pos c)
-  folded_early u =
+  turned_early : (u : ℤ) → moment_in_cycle q c u <ℤ (q +ℤ pos c)
+  turned_early u =
       by_lt_z {P = moment_in_cycle q c u <ℤ (q +ℤ pos c)} u q
       (λ l. (let f : int_lt u q ≡ true = grind (arith, ints, l) in rw f (omega (arith, ints, l))))
-      (λ l. (let f = folded u l in rw f.is f.in_cycle.early))
+      (λ l. (let f = turned u l in rw f.is f.in_cycle.early))
 
   -- what repeats is there what it is at the moment itself
-  folded_same : {X : Type 0} (f : ℤ → X) → RepeatsFrom f q c → (u : ℤ) → f (moment_in_cycle q c u) ≡ f u
-  folded_same f repeats u =
+  turned_same : {X : Type 0} (f : ℤ → X) → RepeatsFrom f q c → (u : ℤ) → f (moment_in_cycle q c u) ≡ f u
+  turned_same f repeats u =
       by_lt_z {P = f (moment_in_cycle q c u) ≡ f u} u q
       (λ l. (let e : int_lt u q ≡ true = grind (arith, ints, l) in rw e refl))
-      (λ l. (let d = folded u l in
+      (λ l. (let d = turned u l in
       ap f d.is ∙ sym (ap f d.in_cycle.far ∙ cycles f q c repeats d.in_cycle.count d.moment d.in_cycle.late)))
 
 -- ---- a zone
@@ -139,7 +139,7 @@ module _ (zone : List Observance) (sound : All IsSoundObservance zone) (steady :
           all : (u : ℤ) → u <ℤ (s +ℤ pos zone_cycle) → Contains (map moment_of changes) u ⊎ (new_offset zone u ≡ None)
           all u l =
               by_lt_z {P = Contains (map moment_of changes) u ⊎ (new_offset zone u ≡ None)} u end (are.all u)
-              (λ h. (let d = folded p zone_cycle (omega arith) u (omega (arith, ints, h, past)) in
+              (λ h. (let d = turned p zone_cycle (omega arith) u (omega (arith, ints, h, past)) in
               let v = d.moment in
               inr (none_later u v d.in_cycle (λ c. (let m = least v c d.in_cycle.late in
               let f = far u v h l d.in_cycle in
@@ -149,17 +149,17 @@ module _ (zone : List Observance) (sound : All IsSoundObservance zone) (steady :
       lasting u =
           let t = at_moment (new_offset zone) s initial changes are.rising are.each there in
           list_agrees zone sound (s +ℤ pos zone_cycle) initial changes listed_on first (moment_in_cycle s zone_cycle u)
-          (folded_early s zone_cycle (omega arith) u)
-          ∙ folded_same s zone_cycle (omega arith) (offset_at zone) (zone_repeats s t.to late t.is) u
+          (turned_early s zone_cycle (omega arith) u)
+          ∙ turned_same s zone_cycle (omega arith) (offset_at zone) (zone_repeats s t.to late t.is) u
 
     module _ (over_all : (u : ℤ) → Contains (map moment_of changes) u → u <ℤ p) where
       none_any : (u : ℤ) → p ≤ℤ u → new_offset zone u ≡ None
       none_any u l =
-          let d = folded p zone_cycle (omega arith) u l in
+          let d = turned p zone_cycle (omega arith) u l in
           none_later u d.moment d.in_cycle (λ c. (let m = over_all d.moment c in omega (arith, ints, m, d.in_cycle.late)))
 
       pub constant : (u : ℤ) → offsets_of initial changes p 1 u ≡ offset_at zone u
       constant u =
           list_agrees zone sound end initial changes are first (moment_in_cycle p 86_400 u)
-          (omega (arith, ints, folded_early p 86_400 (omega arith) u, past))
-          ∙ folded_same p 86_400 (omega arith) (offset_at zone) (zone_stays none_any 86_400) u
+          (omega (arith, ints, turned_early p 86_400 (omega arith) u, past))
+          ∙ turned_same p 86_400 (omega arith) (offset_at zone) (zone_stays none_any 86_400) u

@@ -14,10 +14,10 @@ use Rattle.rr_model.specs.declared.verdict.Side.TheVariants.{A, B, Both}
 use Rattle.rr_model.proofs.WholeLemmas.{floor_only}
 use Rattle.rr_model.proofs.RisingSetLemmas.{Contains-none}
 use Rattle.rr_model.proofs.SideLemmas.{HoldsOn-some}
-use Rattle.rr_word.proofs.SketchLemmas.{rising_on, second_fits}
+use Rattle.rr_periodic.proofs.SketchLemmas.{rising_on, second_fits}
 use Rattle.rr_overlap.specs.Apart.{AreApartBefore, BeginsAt, IsFound, IsLastBefore, IsMeetingAt, IsWalked, NoneBetween, StillRuns, after_first, after_second}
 use Rattle.rr_overlap.specs.Days.{IsAt, IsRestFrom, midnight}
-use Rattle.rr_word.specs.Merge.{IsNextSecond}
+use Rattle.rr_periodic.specs.Merge.{IsNextSecond}
 use Rattle.rr_overlap.specs.declared.begun.LastBegun.{LastBegun}
 use Rattle.rr_overlap.specs.declared.begun.Meeting.{Meeting}
 use Rattle.rr_overlap.proofs.ApartLemmas.{apart_kept, apart_step, last_here, last_kept}

@@ -9,7 +9,7 @@ use Rattle.rr_model.specs.Sets.Sketch.{times_on}
 use Rattle.rr_model.specs.declared.sketch.Sketch.{Sketch}
 use Rattle.rr_model.proofs.WholeLemmas.{floor_mod_below, floor_whole}
 use Rattle.rr_model.proofs.RisingSetLemmas.{Contains-none}
-use Rattle.rr_word.specs.Stretches.{AreFree, AreNumbersAfter}
+use Rattle.rr_periodic.specs.Stretches.{AreFree, AreNumbersAfter}
 use Rattle.rr_overlap.specs.Apart.{BeginsAt, IsWalked, NoneBetween}
 use Rattle.rr_overlap.specs.Days.{midnight}
 use Rattle.rr_overlap.specs.declared.begun.LastBegun.{LastBegun}

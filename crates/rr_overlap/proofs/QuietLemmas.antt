@@ -12,9 +12,9 @@ use Rattle.rr_model.specs.Sets.Sketch.{IsValidSketch, times_on}
 use Rattle.rr_model.specs.declared.sketch.Sketch.{Sketch}
 use Rattle.rr_model.proofs.RisingSetLemmas.{Contains-none, rising_at}
 use Rattle.rr_model.proofs.SecondsLemmas.{first_least}
-use Rattle.rr_word.specs.Stretches.{IsNumberOn}
-use Rattle.rr_word.specs.declared.pair_memo.PairMemo.{PairMemo}
-use Rattle.rr_word.proofs.SketchLemmas.{rising_on, second_fits}
+use Rattle.rr_periodic.specs.Stretches.{IsNumberOn}
+use Rattle.rr_periodic.specs.declared.pair_memo.PairMemo.{PairMemo}
+use Rattle.rr_periodic.proofs.SketchLemmas.{rising_on, second_fits}
 use Rattle.rr_overlap.specs.Apart.{AreApartBefore, AreApartOnDay, BeginsAt, IsLastBefore, IsWalked, Reaches, after_day}
 use Rattle.rr_overlap.specs.Days.{IsQuietDay, midnight}
 use Rattle.rr_overlap.specs.Pairs.{AreQuiet, IsKnown, WereThereOr}

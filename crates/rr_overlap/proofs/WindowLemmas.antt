@@ -11,9 +11,9 @@ use Rattle.rr_model.proofs.WholeLemmas.{floor_mod_below, floor_whole}
 use Rattle.rr_model.proofs.FloorLemmas.{*ℤ-add, floor_div-add, floor_mod-add}
 use Rattle.rr_model.specs.Whole.Divisors.{lcm}
 use Rattle.rr_num.proofs.DivisorLemmas.{lcm_is, lcm_some}
-use Rattle.rr_word.proofs.WindowLemmas.{turns, RepeatsFrom-multiple}
-use Rattle.rr_word.proofs.SketchLemmas.{repeats_from}
-use Rattle.rr_word.specs.SketchLaws.{IsCommonMultiple}
+use Rattle.rr_periodic.proofs.WindowLemmas.{turns, RepeatsFrom-multiple}
+use Rattle.rr_periodic.proofs.SketchLemmas.{repeats_from}
+use Rattle.rr_periodic.specs.SketchLaws.{IsCommonMultiple}
 use Rattle.rr_overlap.specs.Apart.{AreApartBefore, BeginsAt, Meet}
 
 -- some turns of a cycle earlier

@@ -9,7 +9,7 @@ ghost use Rattle.rr_overlap.specs.Running.{IsClashVerdictOn, IsDuration, NamesUp
 use crate::begun::Durations;
 use crate::days::first_meeting;
 use rr_model::{Kind, MAX_CYCLE_DAYS, day_part};
-use rr_word::{DaySeq, common_cycle, days_between};
+use rr_periodic::{DaySeq, common_cycle, days_between};
 
 // The days of the longest duration.
 const LONGEST_DAYS: u64 = 366;

@@ -1,7 +1,7 @@
 // A walk over the days of two sequences.
 ghost use Rattle.std.specs.Prelude.{◌≡◌, ◌≤◌, ◌<◌, ℕ, length, get_or, IsTrue, IfSome, IfNone, None, pos, neg_ℤ, ◌+ℤ◌, ◌*ℤ◌, ◌≤ℤ◌};
 ghost use Rattle.rr_model.specs.Sets.Sketch.{IsNearDay, times_on};
-ghost use Rattle.rr_word.specs.Stretches.{AreFree};
+ghost use Rattle.rr_periodic.specs.Stretches.{AreFree};
 ghost use Rattle.rr_overlap.specs.Apart.{IsLastBefore, IsNear, IsNearMidnight, IsNearSecond};
 ghost use Rattle.rr_overlap.specs.Days.{AreApartUpTo, IsDayEnd, IsFirstMeeting, IsQuietDay, IsWalkedTo, midnight};
 ghost use Rattle.rr_overlap.specs.Pairs.{AreQuiet, IsKnown};
@@ -9,7 +9,7 @@ ghost use Rattle.rr_overlap.specs.Running.{IsDuration};
 
 use crate::begun::{Durations, LastBegun, Meeting, after_day, midnight_of, reaches, second_at};
 use crate::pairs::{is_known, remember};
-use rr_word::{DaySeq, PairMemo, next_second, seconds};
+use rr_periodic::{DaySeq, PairMemo, next_second, seconds};
 
 /// What a day shows of two sequences.
 #[derive(Clone, Copy)]

@@ -18,7 +18,8 @@ pub(crate) fn lists_day(items: &[DayItem], in_year: bool, day: &Day) -> bool
 fn day_item_holds(item: DayItem, in_year: bool, day: &Day) -> bool
     ensures { result ≡ day_item_holds in_year day.now.number item }
 {
-    item.weekday == day.weekday && (item.place == 0 || is_ordinal_of_day(item.place, in_year, day))
+    item.weekday == day.weekday
+        && (item.ordinal == 0 || is_ordinal_of_day(item.ordinal, in_year, day))
 }
 
 /// Whether the day has this ordinal among the days of its weekday, in its year or in its month: 1 for the first, -1 for

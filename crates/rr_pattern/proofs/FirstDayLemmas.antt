@@ -12,7 +12,7 @@ use Rattle.rr_model.specs.declared.kind.Kind.TheVariants.{Days}
 use Rattle.rr_model.proofs.CountLemmas.{one, count_from-zero, count_from-suc}
 use Rattle.rr_model.proofs.WholeLemmas.{floor_whole}
 use Rattle.rr_pattern.proofs.MonthLemmas.{narrow_front}
-use Rattle.rr_model.specs.Graph.Occurrences.{period_of, form_holds, is_pattern_day, pattern_days_to, IsWithinRange, IsRepeatDay, first_or, first_from}
+use Rattle.rr_model.specs.Graph.Occurrences.{form_unit, form_holds, is_pattern_day, pattern_days_to, IsWithinRange, IsRepeatDay, first_or, first_from}
 use Rattle.rr_model.specs.Graph.Occurrences.{days_up_to, last_day_of, first_repeat_day}
 use Rattle.rr_pattern.proofs.PatternParts.{SameFromFirst, RangeCounts, NoneIsNone, FoundIsFirst}
 use Rattle.rr_model.specs.declared.graph.Pattern.{Pattern}
@@ -35,8 +35,8 @@ pub same_from_first : SameFromFirst
 unfolding is_pattern_day
 same_from_first pattern start first d some e =
     ap (λ b. b && form_holds pattern.form pattern d)
-    (divides_from pattern.interval (period_of pattern.form pattern.first_day start) (period_of pattern.form pattern.first_day first)
-    (period_of pattern.form pattern.first_day d) some (and_parts _ _ e).0)
+    (divides_from pattern.interval (form_unit pattern.form pattern.first_day start) (form_unit pattern.form pattern.first_day first)
+    (form_unit pattern.form pattern.first_day d) some (and_parts _ _ e).0)
 
 -- ---- the first of a stretch
 

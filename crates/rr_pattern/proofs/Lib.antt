@@ -4,7 +4,7 @@ pub mod WholeDayLemmas
 pub mod FilledLemmas
 pub mod DayCountLemmas
 pub mod MonthLemmas
-pub mod PlaceLemmas
+pub mod PositionLemmas
 pub mod PartLemmas
 pub mod PatternLemmas
 pub mod FirstDayLemmas

@@ -34,19 +34,19 @@ use Rattle.rr_model.specs.declared.graph.Form.{Form}
 use Rattle.rr_model.specs.declared.graph.Form.TheVariants as form
 use Rattle.rr_pattern.proofs.FilledLemmas.{rule_of, names_days, filled_same}
 use Rattle.rr_pattern.proofs.MonthLemmas.{month_begin, length_of_month, in_same_month, same_month}
-use Rattle.rr_pattern.proofs.PlaceLemmas.{front_in_month, back_in_month}
+use Rattle.rr_pattern.proofs.PositionLemmas.{front_in_month, back_in_month}
 use Rattle.rr_pattern.proofs.PartLemmas.{any_in_sum, some_in_sum, one_day, days_up_to}
 
 -- ---- set positions
 
 -- the one position listed, from the front or from the back
-abbrev is_place : ℤ → ℕ → ℕ → Bool
-is_place (pos n) front back = front == n
-is_place (negsuc n) front back = back == suc n
+abbrev is_position : ℤ → ℕ → ℕ → Bool
+is_position (pos n) front back = front == n
+is_position (negsuc n) front back = back == suc n
 
-one_place : (i : ℤ) (front back : ℕ) → 1 ≤ nat_abs i → ((int_eq i (pos front) || false) || (int_eq i (neg_ℤ (pos back)) || false)) ≡ is_place i front back
-one_place (pos n) front back h = grind (arith, ints, nat_tests)
-one_place (negsuc n) front back h = grind (arith, ints, nat_tests)
+one_position : (i : ℤ) (front back : ℕ) → 1 ≤ nat_abs i → ((int_eq i (pos front) || false) || (int_eq i (neg_ℤ (pos back)) || false)) ≡ is_position i front back
+one_position (pos n) front back h = grind (arith, ints, nat_tests)
+one_position (negsuc n) front back h = grind (arith, ints, nat_tests)
 
 -- ---- joins
 
@@ -116,17 +116,17 @@ module _ (f : Freq) (interval : ℕ) (months ms : List ℤ) (ds : List DayItem) 
 
     -- with one set position
     set_chosen : (i : ℤ) → 1 ≤ nat_abs i → positions ≡ i ∷ [] → (h : Bool)
-        → (date_parts_hold rule d && is_place i (count_from (date_parts_hold rule) (month_begin d) (day_of_month d))
+        → (date_parts_hold rule d && is_position i (count_from (date_parts_hold rule) (month_begin d) (day_of_month d))
         (count_from (date_parts_hold rule) d ((length_of_month d + 1) - day_of_month d))) ≡ h
         → is_chosen rule kind start t ≡ (same_second && (fits d && h))
     unfolding is_chosen
     set_chosen i some e h same =
-        let place : by_set_pos_holds rule kind start t ≡ is_place i (position_from_front rule kind start t) (position_from_back rule kind start t) =
-        rw e (one_place i _ _ some) in
+        let place : by_set_pos_holds rule kind start t ≡ is_position i (position_from_front rule kind start t) (position_from_back rule kind start t) =
+        rw e (one_position i _ _ some) in
         ap (λ b. b && by_set_pos_holds rule kind start t) candidate_is
         ∙ guarded same_second (fits d) (date_parts_hold rule d) (by_set_pos_holds rule kind start t) h
-        (λ s f. ap (λ b. date_parts_hold rule d && b) (place ∙ ap (λ x. is_place i x (position_from_back rule kind start t)) (front_is s f)
-        ∙ ap (is_place i _) (back_is s f)) ∙ same)
+        (λ s f. ap (λ b. date_parts_hold rule d && b) (place ∙ ap (λ x. is_position i x (position_from_back rule kind start t)) (front_is s f)
+        ∙ ap (is_position i _) (back_is s f)) ∙ same)
 
 -- ---- the last of the days 28 up to n of a month
 
@@ -182,7 +182,7 @@ module _ (q : ℤ → Bool) (d : ℤ) where
 
   -- the day of an index
   indexed_is : (index : ℤ) (days : ℕ) → ((e : ℤ) → month_number e ≡ month_number d → q e ≡ is_day_in days e)
-      → (q d && is_place index (count_from q (month_begin d) (day_of_month d)) (count_from q d ((length_of_month d + 1) - day_of_month d)))
+      → (q d && is_position index (count_from q (month_begin d) (day_of_month d)) (count_from q d ((length_of_month d + 1) - day_of_month d)))
       ≡ is_indexed_day index days d
   indexed_is index days test =
       let date = IsDate-year_of d in
@@ -192,10 +192,10 @@ module _ (q : ℤ → Bool) (d : ℤ) where
       let back : count_from q d ((length_of_month d + 1) - day_of_month d) ≡ rank_from_month_end days d =
       count_from-same q (is_day_in days) d ((length_of_month d + 1) - day_of_month d)
       (λ e low high. test e (in_same_month d e (omega (arith, ints, low, date.2)) (omega (arith, ints, high, date.3)))) in
-      ap (λ b. b && is_place index (count_from q (month_begin d) (day_of_month d)) (count_from q d ((length_of_month d + 1) - day_of_month d))) (test d refl)
+      ap (λ b. b && is_position index (count_from q (month_begin d) (day_of_month d)) (count_from q d ((length_of_month d + 1) - day_of_month d))) (test d refl)
       ∙ ap (λ b. is_day_in days d && b) (by_index index _ _ front back)
     where
-      by_index : (i : ℤ) (a b : ℕ) → a ≡ rank_in_month days d → b ≡ rank_from_month_end days d → is_place i a b ≡ has_index i days d
+      by_index : (i : ℤ) (a b : ℕ) → a ≡ rank_in_month days d → b ≡ rank_from_month_end days d → is_position i a b ≡ has_index i days d
       by_index (pos n) a b e f = ap (λ x. x == n) e
       by_index (negsuc n) a b e f = ap (λ x. x == suc n) f
 
@@ -320,7 +320,7 @@ module _ (interval m : ℕ) (ms : List ℤ) (ds : List DayItem) (i : ℤ) (end :
   -- with a set position: the chosen day of its month
   yearly_chosen : (h : Bool)
       → (month_of the_day ≡ m
-      → (date_parts_hold yearly_rule the_day && is_place i (count_from (date_parts_hold yearly_rule) (month_begin the_day) (day_of_month the_day))
+      → (date_parts_hold yearly_rule the_day && is_position i (count_from (date_parts_hold yearly_rule) (month_begin the_day) (day_of_month the_day))
       (count_from (date_parts_hold yearly_rule) the_day ((length_of_month the_day + 1) - day_of_month the_day))) ≡ h)
       → is_chosen yearly_rule kind start t
       ≡ ((second_part kind t == second_part kind start)

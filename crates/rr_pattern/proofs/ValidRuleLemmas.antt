@@ -86,13 +86,13 @@ week_ascends = (
 sum_rises : (days : ℕ) → Rises day_item_lt (days_of_sum days)
 sum_rises days = passed_rise (has_weekday days) (0 ∷ 1 ∷ 2 ∷ 3 ∷ 4 ∷ 5 ∷ 6 ∷ []) week_ascends
 
--- a sum has no places
-no_place : (q : ℕ → Bool) (xs : List ℕ) → has_ordinals (map (λ w. day_item (pos 0) w) (filter q xs)) ≡ false
-no_place q [] = refl
-no_place q (x ∷ xs) =
+-- the weekdays of a sum have no ordinals
+no_ordinal : (q : ℕ → Bool) (xs : List ℕ) → has_ordinals (map (λ w. day_item (pos 0) w) (filter q xs)) ≡ false
+no_ordinal q [] = refl
+no_ordinal q (x ∷ xs) =
     elim (q x) as (λ b. has_ordinals (map (λ w. day_item (pos 0) w) (cond b (x ∷ filter q xs) (filter q xs))) ≡ false) [
-      | true ↦ no_place q xs
-      | false ↦ no_place q xs
+      | true ↦ no_ordinal q xs
+      | false ↦ no_ordinal q xs
     ]
 
 -- ---- days of the month
@@ -190,7 +190,7 @@ module _ (interval n month days first : ℕ) (index : ℤ) where
   allowed : (f : Form) (end : End) → IsPatternOf f (of f) → is_allowed (rule_of_pattern (of f) end) ≡ true
   unfolding rule_of_pattern
   allowed form.Daily end h = refl
-  allowed form.Weekly end h = rw (no_place (has_weekday days) (0 ∷ 1 ∷ 2 ∷ 3 ∷ 4 ∷ 5 ∷ 6 ∷ [])) (or-true _)
+  allowed form.Weekly end h = rw (no_ordinal (has_weekday days) (0 ∷ 1 ∷ 2 ∷ 3 ∷ 4 ∷ 5 ∷ 6 ∷ [])) (or-true _)
   allowed form.AbsoluteMonthly end h =
       elim (cases_lt 28 n) [
         | inr few ↦ rw (le-leb n 28 few) refl

@@ -3,7 +3,7 @@ ghost use Rattle.std.specs.Prelude.{◌≡◌, ◌≤◌, ◌<◌};
 ghost use Rattle.rr_model.specs.Calendar.{IsDayWithin};
 ghost use Rattle.rr_model.specs.Whole.Count.{count_from};
 ghost use Rattle.rr_model.specs.Graph.Counterpart.{form_freq, has_weekday};
-ghost use Rattle.rr_model.specs.Graph.Occurrences.{form_holds, is_day_in, is_day_number, is_indexed_day, is_pattern_day, period_of, rank_from_month_end, rank_in_month};
+ghost use Rattle.rr_model.specs.Graph.Occurrences.{form_holds, is_day_in, is_day_number, is_indexed_day, is_pattern_day, form_unit, rank_from_month_end, rank_in_month};
 
 use rr_cal::{Day, month_number, week_index, weekday};
 use rr_model::{Form, Freq, Pattern};
@@ -18,14 +18,14 @@ pub fn is_pattern_day(pattern: &Pattern, start: &Day, day: &Day) -> bool
     requires near { IsDayWithin 0 day.now.number }
     ensures { result ≡ is_pattern_day pattern.now start.now.number day.now.number }
 {
-    let from = period_of(pattern, start);
-    let to = period_of(pattern, day);
+    let from = form_unit(pattern, start);
+    let to = form_unit(pattern, day);
     is_congruent(from, to, pattern.interval) && form_holds(pattern, day)
 }
 
-// The number of the period in which a day lies.
-fn period_of(pattern: &Pattern, day: &Day) -> i64
-    ensures { result ≡ period_of pattern.now.form pattern.now.first_day day.now.number }
+// The number of the unit in which a day lies: of its day, week, month or year, by the type.
+fn form_unit(pattern: &Pattern, day: &Day) -> i64
+    ensures { result ≡ form_unit pattern.now.form pattern.now.first_day day.now.number }
 {
     match pattern.form {
         Form::Daily => day.number,

@@ -13,7 +13,7 @@ const LAST_DAY: i64 = 2_932_896;
 
 /// The first day of a pattern and a range in the years 1 to 9999, in days since 1970-01-01, if there is one.
 ///
-/// Each period has a day of the pattern, so no more days are looked at than one interval of periods has.
+/// Each unit has a day of the pattern, so no more days are looked at than one interval of units has.
 #[tactic(auto, unfolding(rr_model::specs::Graph::Occurrences::first_repeat_day))]
 pub fn first_repeat_day(pattern: &Pattern, range: &Range) -> Option<i64>
     requires interval { 1 ≤ pattern.now.interval }

@@ -3,8 +3,8 @@ use Rattle.std.proofs.Common.{◌≡◌, ℕ, ◌*◌, ◌≤◌, ℤ, pos, nat_
 use Rattle.std.proofs.lemmas.Int.{ints}
 use Rattle.rr_model.specs.Sets.Sketch.{IsValidSketch, times_on}
 use Rattle.rr_model.specs.declared.sketch.Sketch.{Sketch}
-use Rattle.rr_word.proofs.SketchLemmas.{repeats}
-use Rattle.rr_word.proofs.WindowLemmas.{turns}
+use Rattle.rr_periodic.proofs.SketchLemmas.{repeats}
+use Rattle.rr_periodic.proofs.WindowLemmas.{turns}
 use Rattle.rr_plan.specs.Agree.{AgreeFrom, AgreementIsSettled}
 
 -- as many turns of one period as of the other

@@ -16,8 +16,8 @@ use Rattle.rr_model.proofs.DaysAndTimesLemmas.{moment_is}
 use Rattle.rr_model.proofs.MomentLemmas.{parts_of_moment}
 use Rattle.rr_model.proofs.RisingSetLemmas.{Contains-none}
 use Rattle.rr_model.proofs.WithValueLemmas.{with_value-has, with_value-keeps, with_value-only}
-use Rattle.rr_word.proofs.SketchLemmas.{repeats_from}
-use Rattle.rr_word.proofs.WindowLemmas.{window_lasts}
+use Rattle.rr_periodic.proofs.SketchLemmas.{repeats_from}
+use Rattle.rr_periodic.proofs.WindowLemmas.{window_lasts}
 use Rattle.rr_plan.specs.Few.{AreEmpty, AreSecondsOf, HoldsBefore, HoldsWith, IsOneOf}
 use Rattle.rr_plan.specs.Plan.{AreWithin}
 

@@ -12,8 +12,8 @@ use Rattle.rr_model.specs.declared.kind.Kind.{Kind}
 use Rattle.rr_model.specs.declared.sketch.Sketch.{Sketch}
 use Rattle.rr_model.proofs.MomentLemmas.{parts_of_moment}
 use Rattle.rr_model.proofs.RisingSetLemmas.{Contains-cons_cases, Contains-head, Contains-none, Contains-tail, Rises-tail, below_rest}
-use Rattle.rr_word.proofs.SketchLemmas.{repeats, second_fits}
-use Rattle.rr_word.proofs.WindowLemmas.{turns}
+use Rattle.rr_periodic.proofs.SketchLemmas.{repeats, second_fits}
+use Rattle.rr_periodic.proofs.WindowLemmas.{turns}
 use Rattle.rr_plan.specs.Few.{AreMoreThan, HasLater, HoldsBefore}
 
 -- ---- a rising list is not longer than one that has all its items

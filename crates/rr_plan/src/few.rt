@@ -8,7 +8,7 @@ ghost use Rattle.rr_plan.specs.Few.{AreEmpty, AreMoreThan, AreSecondsOf, HasLate
 ghost use Rattle.rr_plan.specs.Plan.{AreWithin};
 
 use rr_model::{Dates, Kind, NoMemory, moment_at};
-use rr_word::DaySeq;
+use rr_periodic::DaySeq;
 use std::alloc::Global;
 
 /// The occurrences of a set, rising; None exactly if they are more than `most`, or without end.

@@ -13,8 +13,8 @@ use Rattle.rr_model.specs.Sets.Sketch.{IsDaySequence, IsNearDay, IsValidSketch, 
 use Rattle.rr_model.specs.declared.kind.Kind.{Kind}
 use Rattle.rr_model.specs.declared.sketch.Sketch.{Sketch}
 use Rattle.rr_model.proofs.RisingSetLemmas.{Contains-none, set_same}
-use Rattle.rr_word.proofs.SketchLemmas.{repeats, rising_on}
-use Rattle.rr_word.proofs.WindowLemmas.{turns}
+use Rattle.rr_periodic.proofs.SketchLemmas.{repeats, rising_on}
+use Rattle.rr_periodic.proofs.WindowLemmas.{turns}
 use Rattle.rr_rank.specs.declared.sums.Entry.{Entry}
 use Rattle.rr_rank.specs.Counts.{IsDayCounted, IsDayOfNumber, IsRanked, days_before, numbers_on}
 use Rattle.rr_rank.specs.Rank.{HasFewer, IsNth, IsPast, IsRank}

@@ -9,7 +9,7 @@ use Rattle.rr_model.specs.declared.kind.Kind.{Kind}
 use Rattle.rr_model.specs.declared.kind.Kind.TheVariants.{Days, Moments}
 use Rattle.rr_model.specs.declared.sketch.Sketch.{Sketch}
 use Rattle.rr_model.proofs.RisingSetLemmas.{length-le_bound}
-use Rattle.rr_word.proofs.SketchLemmas.{repeats, set_on}
+use Rattle.rr_periodic.proofs.SketchLemmas.{repeats, set_on}
 use Rattle.rr_rank.specs.Counts.{count_on, numbers_at, numbers_on}
 
 module _ (s : Sketch) where

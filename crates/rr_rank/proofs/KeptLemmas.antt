@@ -11,9 +11,9 @@ use Rattle.rr_model.specs.Sets.Occupied.{day_shapes, shape_if_some}
 use Rattle.rr_model.specs.Sets.Sketch.{IsValidSketch, times_in, times_on}
 use Rattle.rr_model.specs.declared.sketch.DayShape.{DayShape}
 use Rattle.rr_model.specs.declared.sketch.Sketch.{Sketch}
-use Rattle.rr_word.proofs.OccupiedLemmas.{occupied_has, occupied_rises, occupied_sets}
-use Rattle.rr_word.proofs.OneLeastLemmas.{before_part, first_period}
-use Rattle.rr_word.proofs.ShapeLemmas.{shapes_only, times_in-early, times_in-late}
+use Rattle.rr_periodic.proofs.OccupiedLemmas.{occupied_has, occupied_rises, occupied_sets}
+use Rattle.rr_periodic.proofs.OneLeastLemmas.{before_part, first_period}
+use Rattle.rr_periodic.proofs.ShapeLemmas.{shapes_only, times_in-early, times_in-late}
 use Rattle.rr_rank.specs.declared.sums.Entry.{Entry}
 use Rattle.rr_rank.specs.Counts.{IsBegin, IsDayCounted, IsDayOfNumber, IsRanked, count_on, days_before, occupied_count}
 use Rattle.rr_rank.specs.Rank.{AreFewSteps}

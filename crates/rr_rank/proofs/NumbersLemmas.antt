@@ -17,7 +17,7 @@ use Rattle.rr_model.proofs.RisingSetLemmas.{Contains-cons_cases, Contains-head, 
 use Rattle.rr_model.proofs.RisingSetLemmas.{set_push, set_same}
 use Rattle.rr_model.proofs.WholeLemmas.{floor_mod_below, floor_whole}
 use Rattle.rr_model.proofs.MomentLemmas.{parts_of_moment}
-use Rattle.rr_word.proofs.SketchLemmas.{rising_on, second_fits}
+use Rattle.rr_periodic.proofs.SketchLemmas.{rising_on, second_fits}
 use Rattle.rr_rank.specs.Counts.{numbers_at, numbers_on}
 
 -- ---- lists, one after the other

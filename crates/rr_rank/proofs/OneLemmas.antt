@@ -10,7 +10,7 @@ use Rattle.rr_model.specs.declared.kind.Kind.{Kind}
 use Rattle.rr_model.specs.declared.kind.Kind.TheVariants.{Days, Moments}
 use Rattle.rr_model.proofs.OrderLemmas.{Before-trans, to_place}
 use Rattle.rr_model.proofs.RisingSetLemmas.{Contains-cons_cases, Contains-head, Contains-none, Contains-tail, Rises-tail, below_rest, set_same}
-use Rattle.rr_word.proofs.SketchLemmas.{same_kind}
+use Rattle.rr_periodic.proofs.SketchLemmas.{same_kind}
 use Rattle.rr_rank.specs.Rank.{HasExactly, HasFewer, IsNth, IsNthOf, IsPast, IsRank, up_to}
 use Rattle.rr_rank.specs.declared.nth.Nth.{Nth}
 use Rattle.rr_rank.specs.declared.nth.Nth.TheVariants.{At, Fewer, Past}

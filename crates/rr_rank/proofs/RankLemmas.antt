@@ -13,7 +13,7 @@ use Rattle.rr_model.specs.declared.kind.Kind.TheVariants.{Days, Moments}
 use Rattle.rr_model.specs.declared.sketch.Sketch.{Sketch}
 use Rattle.rr_model.proofs.RisingSetLemmas.{Contains-none, set_empty, set_same}
 use Rattle.rr_model.proofs.MomentLemmas.{parts_of_moment}
-use Rattle.rr_word.proofs.SketchLemmas.{rising_on, second_fits}
+use Rattle.rr_periodic.proofs.SketchLemmas.{rising_on, second_fits}
 use Rattle.rr_rank.specs.Counts.{IsBegin, count_on, days_before, numbers_at, numbers_on}
 use Rattle.rr_rank.specs.Rank.{IsNth, IsRank, up_to}
 use Rattle.rr_times.specs.Split.{SplitsAt}

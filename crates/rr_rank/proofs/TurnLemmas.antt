@@ -9,8 +9,8 @@ use Rattle.rr_model.specs.declared.kind.Kind.{Kind}
 use Rattle.rr_model.specs.declared.kind.Kind.TheVariants.{Days, Moments}
 use Rattle.rr_model.specs.declared.sketch.Sketch.{Sketch}
 use Rattle.rr_model.proofs.WholeLemmas.{floor_mod_below, floor_whole}
-use Rattle.rr_word.proofs.SketchLemmas.{repeats}
-use Rattle.rr_word.proofs.WindowLemmas.{turns}
+use Rattle.rr_periodic.proofs.SketchLemmas.{repeats}
+use Rattle.rr_periodic.proofs.WindowLemmas.{turns}
 use Rattle.rr_rank.specs.Counts.{count_on}
 use Rattle.rr_rank.specs.Rank.{IsNotAfter}
 use Rattle.rr_rank.specs.Turns.{IsTurnedDay, seconds_up_to}

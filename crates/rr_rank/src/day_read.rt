@@ -6,8 +6,8 @@ ghost use Rattle.rr_rank.specs.Rank.{AreFewSteps};
 
 use crate::search::{Key, first_index};
 use crate::sums::Sums;
+use rr_periodic::{Counted, DaySeq};
 use rr_steps::Steps;
-use rr_word::{Counted, DaySeq};
 use std::sync::ledger::Ledger;
 
 /// Where the counting begins, and how many occurrences come before the settled day and before a period past it.

@@ -101,7 +101,7 @@ module _ (n m : ℕ) where
   unfolding day_item_within
   day_item_within-gives text =
       gives-then _ _ _ _ (gives-ok_or (weekday_named (weekday_text text)) _ _)
-      (λ weekday. gives-then _ _ _ _ (ordinal_within-gives (ordinal_text text)) (λ place. gives-same _))
+      (λ weekday. gives-then _ _ _ _ (ordinal_within-gives (ordinal_text text)) (λ ordinal. gives-same _))
 
   day_items_of-gives : (text : List ℕ) → Gives (day_items_of n text) (day_items_of m text)
   unfolding day_items_of

@@ -42,8 +42,8 @@ read_values :
     ≡ Ok (series_of Days (pos 19_723) (rule_alone Monthly 4_294_967_295 (neg_ℤ (pos 1) ∷ pos 1 ∷ pos 15 ∷ []) [] Never)))
     × (calendar_text None (text (codes "19700101T000001") (codes "COUNT=18446744073709551615;BYDAY=+1mo,FR,-53SU;FREQ=MONTHLY"))
     ≡ Ok (series_of Moments (pos 1)
-    (rule_alone Monthly 1 [] (record { place = neg_ℤ (pos 53); weekday = 6 } ∷ record { place = pos 0; weekday = 4 } ∷ record {
-      place =
+    (rule_alone Monthly 1 [] (record { ordinal = neg_ℤ (pos 53); weekday = 6 } ∷ record { ordinal = pos 0; weekday = 4 } ∷ record {
+      ordinal =
           pos 1;
       weekday = 0;
     } ∷ []) (Count 18_446_744_073_709_551_615))))

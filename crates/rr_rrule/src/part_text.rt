@@ -113,8 +113,8 @@ pub(crate) fn push_number_part(
 fn push_day_item(line: &mut Vec<u8>, item: DayItem) -> Result<(), NoMemory>
     ensures { OnOk result (Appends line.old line.new (day_item_text item)) }
 {
-    if item.place != 0 {
-        push_number(line, i64::from(item.place))?;
+    if item.ordinal != 0 {
+        push_number(line, i64::from(item.ordinal))?;
     }
     line.extend_from_slice(weekday_text(item.weekday))?;
     Ok(())

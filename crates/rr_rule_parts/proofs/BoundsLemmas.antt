@@ -92,19 +92,19 @@ numbers_of-lie line low high has_leap text =
 
 -- ---- days
 
-ordinal_within-counts : (line : ℕ) (text : List ℕ) (place : ℤ) → ordinal_within line text ≡ Ok place → nat_abs place ≤ 53
-ordinal_within-counts line [] place h =
-    let e : pos 0 ≡ place = cc in
+ordinal_within-counts : (line : ℕ) (text : List ℕ) (ordinal : ℤ) → ordinal_within line text ≡ Ok ordinal → nat_abs ordinal ≤ 53
+ordinal_within-counts line [] ordinal h =
+    let e : pos 0 ≡ ordinal = cc in
     subst (λ z. nat_abs z ≤ 53) e (omega arith)
-ordinal_within-counts line (b ∷ bs) place h = (number_within-counts line 53 (b ∷ bs) place h).1
+ordinal_within-counts line (b ∷ bs) ordinal h = (number_within-counts line 53 (b ∷ bs) ordinal h).1
 
 day_item_within-means : (line : ℕ) (text : List ℕ) (item : DayItem) → day_item_within line text ≡ Ok item → IsDayItem item
 unfolding day_item_within
 day_item_within-means line text item h =
     let day = and_then_ok (ok_or (weekday_named (weekday_text text)) (BadRule line)) _ item h in
     let weekday = weekday_named-below (weekday_text text) day.0 (ok_or_ok _ _ day.0 day.1) in
-    step_keeps IsDayItem (ordinal_within line (ordinal_text text)) (λ place. record { place = place; weekday = day.0 }) item
-    (λ place e. (ordinal_within-counts line (ordinal_text text) place e, weekday)) day.2
+    step_keeps IsDayItem (ordinal_within line (ordinal_text text)) (λ ordinal. record { ordinal = ordinal; weekday = day.0 }) item
+    (λ ordinal e. (ordinal_within-counts line (ordinal_text text) ordinal e, weekday)) day.2
 
 pub day_items_of-means : (line : ℕ) (text : List ℕ) (items : List DayItem) → day_items_of line text ≡ Ok items → All IsDayItem items
 unfolding day_items_of

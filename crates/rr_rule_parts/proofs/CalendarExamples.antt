@@ -37,7 +37,7 @@ text start rule = codes "DTSTART:" ++ start ++ 10 ∷ (codes "RRULE:" ++ rule ++
 
 calendars :
     (calendar_text None calendar_file
-    ≡ Ok (series Moments (pos 1_704_276_000) (rule Weekly (record { place = pos 0; weekday = 2 } ∷ []) (Count 4) ∷ []) [] (pos 1_704_880_800 ∷ [])))
+    ≡ Ok (series Moments (pos 1_704_276_000) (rule Weekly (record { ordinal = pos 0; weekday = 2 } ∷ []) (Count 4) ∷ []) [] (pos 1_704_880_800 ∷ [])))
     × (calendar_text None (codes "DTSTART;TZID=Europe/Berlin:20240101T093000\nRRULE:FREQ=DAILY;UNTIL=20240103T083000Z\n") ≡ Err UtcMoment)
     × (calendar_text (Some (pos 3_600)) (codes "DTSTART;TZID=Europe/Berlin:20240101T093000\nRRULE:FREQ=DAILY;UNTIL=20240103T083000Z\n")
     ≡ Ok (series Moments (pos 1_704_101_400) (rule Daily [] (Until Moments (pos 1_704_274_200)) ∷ []) [] []))

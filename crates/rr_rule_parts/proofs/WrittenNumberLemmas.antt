@@ -100,40 +100,40 @@ number_within-written line bounds z h =
 
 -- ---- values of BYDAY
 
--- the place that is written before a weekday
-abbrev place_written : ℤ → List ℕ
-place_written place = if int_eq place (pos 0) then [] else signed_decimal place
+-- the ordinal that is written before a weekday
+abbrev ordinal_written : ℤ → List ℕ
+ordinal_written ordinal = if int_eq ordinal (pos 0) then [] else signed_decimal ordinal
 
--- how a place is read back: none, or a number
-record IsPlaceText (place : ℤ) (text : List ℕ) : Type 0 where
+-- how an ordinal is read back: none, or a number
+record IsOrdinalText (ordinal : ℤ) (text : List ℕ) : Type 0 where
   form : ((length text == 0) || is_signed_number text) ≡ true
-  value : (line : ℕ) → ordinal_within line text ≡ Ok place
+  value : (line : ℕ) → ordinal_within line text ≡ Ok ordinal
   words : list_all is_word_byte text ≡ true
 
-some_place : (line : ℕ) (text : List ℕ) → is_signed_number text ≡ true → ordinal_within line text ≡ number_within line (signed_bounds 53) text
-some_place line [] h = absurd (cc)
-some_place line (b ∷ bs) h = refl
+some_ordinal : (line : ℕ) (text : List ℕ) → is_signed_number text ≡ true → ordinal_within line text ≡ number_within line (signed_bounds 53) text
+some_ordinal line [] h = absurd (cc)
+some_ordinal line (b ∷ bs) h = refl
 
-place-written : (place : ℤ) → nat_abs place ≤ 53 → IsPlaceText place (place_written place)
-place-written place h = by (int_eq place (pos 0)) refl
+ordinal-written : (ordinal : ℤ) → nat_abs ordinal ≤ 53 → IsOrdinalText ordinal (ordinal_written ordinal)
+ordinal-written ordinal h = by (int_eq ordinal (pos 0)) refl
   where
-    by : (b : Bool) → int_eq place (pos 0) ≡ b → IsPlaceText place (if b then [] else signed_decimal place)
+    by : (b : Bool) → int_eq ordinal (pos 0) ≡ b → IsOrdinalText ordinal (if b then [] else signed_decimal ordinal)
     by true e =
-        let none : place ≡ pos 0 = (Decides-int_eq place (pos 0)).0 e in
+        let none : ordinal ≡ pos 0 = (Decides-int_eq ordinal (pos 0)).0 e in
         record { form = refl; value = λ line. ap Ok (sym none); words = refl }
     by false e =
-        let small : nat_abs place < 2 ^ 64 = omega arith in
-        let t = number_text place small in
-        let some : 1 ≤ nat_abs place = grind (arith, ints, e) in
+        let small : nat_abs ordinal < 2 ^ 64 = omega arith in
+        let t = number_text ordinal small in
+        let some : 1 ≤ nat_abs ordinal = grind (arith, ints, e) in
         record {
-          form = or_right (length (signed_decimal place) == 0) (is_signed_number (signed_decimal place)) t.signed_form;
-          value = λ line. some_place line (signed_decimal place) t.signed_form
-              ∙ number_within-written line (signed_bounds 53) place (record { small = small; from = some; to = h; sign = inl refl });
-          words = signed_decimal-words place small;
+          form = or_right (length (signed_decimal ordinal) == 0) (is_signed_number (signed_decimal ordinal)) t.signed_form;
+          value = λ line. some_ordinal line (signed_decimal ordinal) t.signed_form
+              ∙ number_within-written line (signed_bounds 53) ordinal (record { small = small; from = some; to = h; sign = inl refl });
+          words = signed_decimal-words ordinal small;
         }
 
--- a place before a weekday
-module _ (place : ℤ) (d : ℕ) (text : List ℕ) (p : IsPlaceText place text) (w : IsWeekdayText d) where
+-- an ordinal before a weekday
+module _ (ordinal : ℤ) (d : ℕ) (text : List ℕ) (p : IsOrdinalText ordinal text) (w : IsWeekdayText d) where
   front : ordinal_text (text ++ weekday_text d) ≡ text
   front =
       let all : length (text ++ weekday_text d) - 2 ≡ length text = omega (arith, length-append text (weekday_text d), w.two) in
@@ -150,7 +150,7 @@ module _ (place : ℤ) (d : ℕ) (text : List ℕ) (p : IsPlaceText place text) 
       (ap (λ (t : List ℕ). is_some (weekday_named t)) behind ∙ ap is_some w.named)
       (ap (λ (t : List ℕ). (length t == 0) || is_signed_number t) front ∙ p.form)
 
-  item_read : (line : ℕ) → day_item_within line (text ++ weekday_text d) ≡ Ok (record { place = place; weekday = d })
+  item_read : (line : ℕ) → day_item_within line (text ++ weekday_text d) ≡ Ok (record { ordinal = ordinal; weekday = d })
   unfolding day_item_within
   item_read line = rw (behind, w.named, front, p.value line) refl
 
@@ -162,10 +162,10 @@ pub record IsItemText (item : DayItem) : Type 0 where
 
 pub day_item-written : (item : DayItem) → IsDayItem item → IsItemText item
 day_item-written item h =
-    let p = place-written item.place h.0 in
+    let p = ordinal-written item.ordinal h.0 in
     let w = weekday-written item.weekday h.1 in
     record {
-      form = is_item item.place item.weekday (place_written item.place) p w;
-      value = item_read item.place item.weekday (place_written item.place) p w;
-      words = list_all-both is_word_byte (place_written item.place) (weekday_text item.weekday) p.words w.words;
+      form = is_item item.ordinal item.weekday (ordinal_written item.ordinal) p w;
+      value = item_read item.ordinal item.weekday (ordinal_written item.ordinal) p w;
+      words = list_all-both is_word_byte (ordinal_written item.ordinal) (weekday_text item.weekday) p.words w.words;
     }

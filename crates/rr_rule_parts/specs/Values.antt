@@ -78,7 +78,7 @@ unfoldable pub day_item_within : ℕ → List ℕ → Result DayItem Refusal
 day_item_within line text = do
   weekday ← ok_or (weekday_named (weekday_text text)) (BadRule line)
   ordinal ← ordinal_within line (ordinal_text text)
-  Ok (record { place = ordinal; weekday = weekday })
+  Ok (record { ordinal = ordinal; weekday = weekday })
 
 -- the values of BYDAY
 unfoldable pub day_items_of : ℕ → List ℕ → Result (List DayItem) Refusal

@@ -9,7 +9,7 @@ use rr_model::{DayItems, End, Freq, Kind, Refusal, Rule, Stamp};
 fn has_ordinals(items: &DayItems) -> bool
     ensures { result ≡ has_ordinals items.now }
 {
-    items.as_slice().iter().any(|item| item.place != 0)
+    items.as_slice().iter().any(|item| item.ordinal != 0)
 }
 
 fn takes_year_days(freq: Freq) -> bool

@@ -4,9 +4,9 @@ use Rattle.std.specs.Prelude.{Some, None}
 use Rattle.std.specs.Ordering.{int_eq}
 use Rattle.std.proofs.lemmas.Int.{ints}
 use Rattle.std.proofs.lemmas.List.{length-take-le, take_more}
-use Rattle.rr_word.specs.Numbered.{number_in}
-use Rattle.rr_word.specs.declared.numbered.NumberedDay.{NumberedDay}
-use Rattle.rr_word.proofs.ShapeLemmas.{int_eq-differ}
+use Rattle.rr_periodic.specs.Numbered.{number_in}
+use Rattle.rr_periodic.specs.declared.numbered.NumberedDay.{NumberedDay}
+use Rattle.rr_periodic.proofs.ShapeLemmas.{int_eq-differ}
 use Rattle.rr_runs.specs.Runs.{IsCountOf, Reached, change, changes, days_of, first_reached, number_told, reach, last_reached, run_count}
 use Rattle.rr_runs.specs.declared.run_days.RunCount.{RunCount}
 

@@ -1,7 +1,7 @@
 -- Days with numbers as a row of numbers, and how many runs they have.
 use Rattle.std.specs.Prelude.{◌≡◌, ℕ, zero, suc, ◌+◌, ◌<◌, ◌==◌, ◌&&◌, if◌then◌else◌, List, [], ◌∷◌, ◌++◌, length, drop, get_or, nat_abs, Option, Some, None, ℤ, pos, neg_ℤ, ◌+ℤ◌, ◌-ℤ◌, ◌≤ℤ◌}
-use Rattle.rr_word.specs.Numbered.{number_in}
-use Rattle.rr_word.specs.declared.numbered.NumberedDay.{NumberedDay}
+use Rattle.rr_periodic.specs.Numbered.{number_in}
+use Rattle.rr_periodic.specs.declared.numbered.NumberedDay.{NumberedDay}
 use Rattle.rr_runs.specs.declared.run_days.RunCount.{RunCount}
 
 -- ---- a row of numbers, one for each day

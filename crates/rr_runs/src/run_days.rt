@@ -2,7 +2,7 @@
 ghost use Rattle.std.specs.Prelude.{◌≡◌, ◌≢◌, ◌⊎◌, ℕ, ◌<◌, ◌≤◌, ◌∷◌, ◌++◌, ◌+◌, [], None, OnErr, OnOk, drop, length, pos, neg_ℤ, ◌+ℤ◌, ◌≤ℤ◌, ◌<ℤ◌};
 ghost use Rattle.std.specs.List.{All};
 ghost use Rattle.rr_model.specs.Calendar.{IsDayWithin};
-ghost use Rattle.rr_word.specs.Numbered.{number_in};
+ghost use Rattle.rr_periodic.specs.Numbered.{number_in};
 ghost use Rattle.rr_runs.specs.Runs.{CountsMore, IsCountedDay, IsRowOf, PutsDayAt, SameDays, change, days_of, number_told, run_count};
 
 use crate::pages::Pages;
@@ -35,7 +35,7 @@ pub struct RunDays {
 
 impl Model for RunDays {
     ghost use Rattle.std.specs.Prelude.{List, ◌≤◌, drop, length};
-    ghost use Rattle.rr_word.specs.declared.numbered.NumberedDay.{NumberedDay};
+    ghost use Rattle.rr_periodic.specs.declared.numbered.NumberedDay.{NumberedDay};
     ghost use Rattle.rr_model.specs.Calendar.{IsDayWithin};
     ghost use Rattle.rr_runs.specs.Runs.{days_of};
 

@@ -17,24 +17,24 @@ use rr_model::{Freq, Kind, Rule, moment_at, second_part};
 use rr_num::is_congruent;
 use rr_parts::{Moment, date_parts_hold, seconds_of_unit, unit_fits, unit_number};
 
-/// The candidate of a unit at the position `place`, from 1 from the front, or negative from the back; none exactly if there
+/// The candidate of a unit at a position, from 1 from the front, or negative from the back; none exactly if there
 /// is none (RFC 5545, section 3.3.10, BYSETPOS).
 ///
 /// Units are numbered as those of the rule's frequency, the start and the candidate as in `chosen`. The candidate may
 /// lie before the start. It takes no memory, and visits the days of the unit and the numbers of the lists, but no seconds.
-pub fn nth_of_unit(rule: &Rule, kind: Kind, start: i64, unit: i64, place: i64) -> Option<i64>
+pub fn nth_of_unit(rule: &Rule, kind: Kind, start: i64, unit: i64, position: i64) -> Option<i64>
     requires rule { IsValidRule kind rule.now }
     requires start { IsInYears kind start }
     requires first { IsDayWithin 1000 (day_part kind (start_of_unit rule.now kind unit)) }
     requires next { IsDayWithin 1000 (day_part kind (start_of_unit rule.now kind (unit +ℤ pos 1))) }
-    requires place { place ≡ pos 0 → ⊥ }
-    ensures { IsNthOfUnit rule.now kind start unit place result }
+    requires position { position ≡ pos 0 → ⊥ }
+    ensures { IsNthOfUnit rule.now kind start unit position result }
 {
     let start = Moment::new(kind, start);
     if rule.freq.is_whole_days() {
-        nth_of_days(rule, &start, unit, place)
+        nth_of_days(rule, &start, unit, position)
     } else {
-        nth_of_seconds(rule, &start, unit, place)
+        nth_of_seconds(rule, &start, unit, position)
     }
 }
 

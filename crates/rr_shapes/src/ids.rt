@@ -7,10 +7,10 @@ pub struct SetId {
     pub index: usize,
 }
 
-/// The number of a set in the `Shapes` of numbered days: of a folded series, of a canonical text that was read, or of two
+/// The number of a set in the `Shapes` of numbered days: of a series that was tabulated, of a canonical text that was read, or of two
 /// sets combined.
 #[derive(Clone, Copy, PartialEq, Eq)]
-pub struct FoldedSetId {
+pub struct ShapeId {
     /// The index of the set, from 0; in the `Shapes` that `with_empty_set` gives, 0 is that of the empty set.
     pub number: u32,
 }

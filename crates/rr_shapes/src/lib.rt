@@ -8,7 +8,7 @@ mod set_table;
 mod shapes;
 mod time_sets;
 
-pub use ids::{FoldedSetId, SetId};
+pub use ids::{SetId, ShapeId};
 pub use pair_numbers::{Pair, PairNumbers};
 pub use residues::Residues;
 pub use set_table::SetTable;

@@ -4,7 +4,7 @@ ghost use Rattle.rr_model.specs.Rising.Sets.{IsSecondsOfDay};
 ghost use Rattle.rr_model.specs.Sets.Sizes.{total_size};
 ghost use Rattle.rr_model.specs.declared.limits.TheConstants.{MAX_SECONDS};
 
-use crate::ids::FoldedSetId;
+use crate::ids::ShapeId;
 use crate::time_sets::TimeSets;
 use rr_model::{Fault, MAX_SECONDS, NoMemory, Refusal};
 use rr_times::TimeSet;
@@ -63,7 +63,7 @@ impl Shapes {
     /// A new set is refused as `TooManyMoments` exactly if it would bring the sum of all sizes above
     /// `MAX_SECONDS`. After either fault all is as it was. A set equal to the last one that was numbered or found is not
     /// hashed.
-    pub fn place(&mut self, times: TimeSet) -> Result<FoldedSetId, Fault>
+    pub fn place(&mut self, times: TimeSet) -> Result<ShapeId, Fault>
         ensures placed { IfOk result (λ set. IsPlaced times self.old self.new set.number) }
         ensures refused { RefusedExactlyWhere (IsTooMany times self.old)
             Refusal.TooManyMoments result }
@@ -72,7 +72,7 @@ impl Shapes {
         ensures room { total_size self.new ≤ MAX_SECONDS }
     {
         if let Some(number) = self.sets.find(&times) {
-            return Ok(FoldedSetId {
+            return Ok(ShapeId {
                 number: number as u32,
             });
         }
@@ -84,7 +84,7 @@ impl Shapes {
             return Err(Fault::NoMemory);
         };
         self.size += more;
-        Ok(FoldedSetId {
+        Ok(ShapeId {
             number: number as u32,
         })
     }
@@ -93,7 +93,7 @@ impl Shapes {
     ///
     /// A new set is refused as `TooManyMoments` exactly if it would bring the sum of all sizes above `MAX_SECONDS`. After
     /// either fault all is as it was. Seconds equal to the last set that was numbered or found take no memory.
-    pub fn place_seconds(&mut self, alloc: Global, times: &[u32]) -> Result<FoldedSetId, Fault>
+    pub fn place_seconds(&mut self, alloc: Global, times: &[u32]) -> Result<ShapeId, Fault>
         requires of_day { IsSecondsOfDay times.now }
         ensures placed { IfOk result (λ set. IsPlaced times.now self.old self.new set.number) }
         ensures refused { RefusedExactlyWhere (IsTooMany times.now self.old)
@@ -103,7 +103,7 @@ impl Shapes {
         ensures room { total_size self.new ≤ MAX_SECONDS }
     {
         if let Some(number) = self.sets.last_number(times) {
-            return Ok(FoldedSetId {
+            return Ok(ShapeId {
                 number: number as u32,
             });
         }
@@ -114,7 +114,7 @@ impl Shapes {
     }
 
     /// The seconds of the set that has this number, from 0 to 86,399, rising.
-    pub fn times(&self, set: FoldedSetId) -> &[u32]
+    pub fn times(&self, set: ShapeId) -> &[u32]
         requires { set.number < length self.now }
         ensures same { slice_get self.now set.number ≡ Some result.now }
         ensures of_day { IsSecondsOfDay result.now }

@@ -17,7 +17,7 @@ use Rattle.rr_model.proofs.MemberLemmas.{not_after, within_end_is}
 use Rattle.rr_model.proofs.WholeLemmas.{floor_only, floor_whole, floor_mod_below}
 use Rattle.rr_model.proofs.DaysAndTimesLemmas.{moment_is}
 use Rattle.rr_model.proofs.TestLemmas.{eqb-same}
-use Rattle.rr_skip.specs.Folding.{chosen_days, days_to, is_member_day}
+use Rattle.rr_skip.specs.Tabulation.{chosen_days, days_to, is_member_day}
 use Rattle.rr_skip.specs.Members.{IsSkipMember, skip_members_to}
 use Rattle.rr_skip.specs.Months.{is_skip_chosen}
 use Rattle.rr_skip.specs.declared.series.SkipRule.{SkipRule}

@@ -23,12 +23,12 @@ use Rattle.rr_model.proofs.MemberLemmas.{same_kind_is}
 use Rattle.rr_model.proofs.MomentLemmas.{day_part-moment_at, second_part-moment_at}
 use Rattle.rr_model.proofs.WholeLemmas.{floor_mod_below}
 use Rattle.rr_check.proofs.SeriesCycleLemmas.{rule_cycle_some}
-use Rattle.rr_skip.specs.Folding.{chosen_days, days_to, is_member_day, AreSkipDays, IsDaysUntil, IsUpToWalk}
+use Rattle.rr_skip.specs.Tabulation.{chosen_days, days_to, is_member_day, AreSkipDays, IsDaysUntil, IsUpToWalk}
 use Rattle.rr_skip.specs.Members.{HasCount, SkipsTooFar}
 use Rattle.rr_skip.specs.Validity.{FitsSkipping, takes_skip}
 use Rattle.rr_model.specs.Whole.Count.{one_if}
 use Rattle.rr_skip.specs.Walks.{IsWalked}
-use Rattle.rr_skip.specs.declared.fold.SkipDays.{SkipDays}
+use Rattle.rr_skip.specs.declared.day_table.SkipDays.{SkipDays}
 use Rattle.rr_skip.specs.declared.series.SkipRule.{SkipRule}
 use Rattle.rr_skip.specs.declared.walk.Walk.{Walk}
 use Rattle.rr_skip.proofs.MemberDayLemmas.{chosen_at, day_member, member_day}

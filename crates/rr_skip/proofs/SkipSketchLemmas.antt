@@ -17,12 +17,12 @@ use Rattle.rr_model.proofs.RisingSetLemmas.{Contains-head, Contains-none, Contai
 use Rattle.rr_model.proofs.WholeLemmas.{floor_mod_below}
 use Rattle.rr_model.proofs.YearLemmas.{four_digit_bounds}
 use Rattle.rr_days.proofs.SketchedLemmas.{times_early, times_before, times_after}
-use Rattle.rr_days.specs.Sketched.{IsWholeFold}
+use Rattle.rr_days.specs.Sketched.{IsWholeDayTable}
 use Rattle.rr_model.proofs.DaysAndTimesLemmas.{moment_is}
-use Rattle.rr_skip.specs.Folding.{is_occupied, sets_of, skip_sketch, AreSkipDays, IsFolding}
+use Rattle.rr_skip.specs.Tabulation.{is_occupied, sets_of, skip_sketch, AreSkipDays, IsTabulation}
 use Rattle.rr_skip.specs.Members.{IsGivenBy, OccursSkipping}
 use Rattle.rr_model.specs.Whole.Count.{one_if}
-use Rattle.rr_skip.specs.declared.fold.SkipDays.{SkipDays}
+use Rattle.rr_skip.specs.declared.day_table.SkipDays.{SkipDays}
 use Rattle.rr_skip.specs.declared.series.SkipRule.{SkipRule}
 use Rattle.rr_skip.specs.declared.series.SkipSeries.{SkipSeries}
 use Rattle.rr_skip.proofs.MemberDayLemmas.{member_day, day_member}
@@ -129,14 +129,14 @@ skip_stands series days are k t =
       },
     )
 
--- ---- the folding
+-- ---- the day table
 
 one_or_none : (b : Bool) → one_if b < 2
 one_or_none true = omega arith
 one_or_none false = omega arith
 
-pub is_folding : (kind : Kind) (start : ℤ) (test : ℤ → Bool) (days : SkipDays) → AreSkipDays test (day_part kind start) days → IsFolding kind start days
-is_folding kind start test days are = record {
+pub is_tabulation : (kind : Kind) (start : ℤ) (test : ℤ → Bool) (days : SkipDays) → AreSkipDays test (day_part kind start) days → IsTabulation kind start days
+is_tabulation kind start test days are = record {
   order = are.order;
   high = are.high;
   some = are.some;
@@ -153,9 +153,9 @@ second_set Moments start = (
   All-cons (λ x. x < 86_400) (second_part Moments start) [] (floor_mod_below start 86_400 (omega arith)) (All-nil (λ x. x < 86_400)),
 )
 
-pub whole_fold : (kind : Kind) (start : ℤ) (days : SkipDays) → IsInYears kind start → IsFolding kind start days
-    → IsWholeFold kind (sets_of (second_part kind start)) days.numbers.items (day_part kind start) days.settled days.period
-whole_fold kind start days y f = record {
+pub whole_table : (kind : Kind) (start : ℤ) (days : SkipDays) → IsInYears kind start → IsTabulation kind start days
+    → IsWholeDayTable kind (sets_of (second_part kind start)) days.numbers.items (day_part kind start) days.settled days.period
+whole_table kind start days y f = record {
   order = f.order;
   whole = f.whole;
   some = f.some;

@@ -24,7 +24,7 @@ pub record StandsForSeries (series : SkipSeries) (sketch : Sketch) : Type 0 wher
   pub near : sketch.settled ≤ℤ pos 20_000_000
 
 -- the days if no limit refuses the series; the first limit that does; or out of memory
-abbrev pub IsFoldedSeries : {A : Type 0} → (A → Sketch) → SkipSeries → Result A Fault → Type 0
-IsFoldedSeries sketch series (Ok days) = StandsForSeries series (sketch days) × IsSkipLimitRefusal series None
-IsFoldedSeries sketch series (Err (Refused refusal)) = IsSkipLimitRefusal series (Some refusal)
-IsFoldedSeries sketch series (Err NoMemory) = ⊤
+abbrev pub IsTabulatedSeries : {A : Type 0} → (A → Sketch) → SkipSeries → Result A Fault → Type 0
+IsTabulatedSeries sketch series (Ok days) = StandsForSeries series (sketch days) × IsSkipLimitRefusal series None
+IsTabulatedSeries sketch series (Err (Refused refusal)) = IsSkipLimitRefusal series (Some refusal)
+IsTabulatedSeries sketch series (Err NoMemory) = ⊤

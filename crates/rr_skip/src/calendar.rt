@@ -8,7 +8,7 @@ ghost use Rattle.rr_skip.specs.Months.{is_day_chosen, is_skip_chosen, schedule_o
 ghost use Rattle.rr_skip.specs.Reading.{judged_if_some, judged_skip, reads_rscale, skip_scan, skip_text, start_refusal, unless_refused};
 ghost use Rattle.rr_skip.specs.Validity.{IsSoundSkipping};
 
-use crate::fold::day_in_years;
+use crate::day_table::day_in_years;
 use crate::language::SkipLanguage;
 use crate::lines::lines_read;
 use crate::schedule::Schedule;

@@ -1,23 +1,23 @@
-// A series judged by the limits, and folded.
+// A series judged by the limits, and tabulated.
 ghost use Rattle.rr_days.specs.Sequence.{sketch};
-ghost use Rattle.rr_skip.specs.Judged.{IsFoldedSeries};
+ghost use Rattle.rr_skip.specs.Judged.{IsTabulatedSeries};
 ghost use Rattle.rr_skip.specs.Validity.{IsSoundSkipping};
 
 use crate::SkipSeries;
-use crate::fold::fold_skip;
-use rr_days::Folded;
+use crate::day_table::tabulate_skip;
+use rr_days::DayTable;
 use rr_model::Fault;
 use std::alloc::Global;
 
-/// Folds a series if no limit refuses it.
+/// Tabulates a series if no limit refuses it.
 ///
-/// First `CycleTooLong` comes if `admit` gives it, and then `CountedTooFar` if `fold_skip` does.
-pub fn fold_admitted(alloc: Global, series: &SkipSeries) -> Result<Folded, Fault>
+/// First `CycleTooLong` comes if `admit` gives it, and then `CountedTooFar` if `tabulate_skip` does.
+pub fn tabulate_admitted(alloc: Global, series: &SkipSeries) -> Result<DayTable, Fault>
     requires sound { IsSoundSkipping series.now }
-    ensures { IsFoldedSeries sketch series.now result }
+    ensures { IsTabulatedSeries sketch series.now result }
 {
     match series.admit() {
         Err(refusal) => Err(Fault::Refused(refusal)),
-        Ok(_) => fold_skip(alloc, series),
+        Ok(_) => tabulate_skip(alloc, series),
     }
 }

@@ -3,7 +3,7 @@
 
 mod admit;
 mod calendar;
-mod fold;
+mod day_table;
 mod judged;
 mod language;
 mod laws;
@@ -17,7 +17,8 @@ mod turn;
 mod walk;
 
 pub use calendar::read;
-pub use fold::fold_skip;
-pub use judged::fold_admitted;
+// (the second is the name that it was first given)
+pub use day_table::{tabulate_skip, tabulate_skip as fold_skip};
+pub use judged::tabulate_admitted;
 pub use laws::{chosen_is_given, omitting_is_plain, omitting_text_is_plain, skip_chosen_repeats};
 pub use series::{Skip, SkipRule, SkipSeries};

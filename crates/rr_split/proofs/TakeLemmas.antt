@@ -11,7 +11,7 @@ use Rattle.rr_model.specs.Sets.Sketch.{StandsFor, StandsIn}
 use Rattle.rr_model.specs.Sets.Verdict.{HaveEqualOccurrences}
 use Rattle.rr_model.specs.declared.kind.Kind.{Kind}
 use Rattle.rr_model.specs.declared.sketch.Sketch.{Sketch}
-use Rattle.rr_word.proofs.SketchLemmas.{stands_or_not}
+use Rattle.rr_periodic.proofs.SketchLemmas.{stands_or_not}
 use Rattle.rr_split.specs.Left.{IsBeyond, IsLeft}
 use Rattle.rr_plan.specs.Few.{AreMoreThan, IsOneOf}
 use Rattle.rr_plan.specs.Plan.{AreWithin, BeginsOnPattern, IsPart, IsTaken, IsTakenBy}

@@ -6,7 +6,7 @@ use crate::days::days_of;
 use crate::left::union;
 use crate::limits::{MAX_EXCEPTIONS, MAX_PARTS};
 use crate::tails::put_tails;
-use rr_days::Folded;
+use rr_days::DayTable;
 use rr_find::find;
 use rr_guess::{Target, guesses};
 use rr_model::{GraphEvent, NoMemory};
@@ -17,10 +17,10 @@ use std::alloc::Global;
 /// as a set, and guessed events of the others; more than `most` sets are of no use.
 pub(crate) fn candidates(
     alloc: Global,
-    days: &Folded,
+    days: &DayTable,
     most: usize,
     most_days: u64,
-) -> Result<Vec<Folded>, NoMemory> {
+) -> Result<Vec<DayTable>, NoMemory> {
     let mut sets = Vec::new(alloc);
     if puts_guesses(alloc, &mut sets, days, most_days)? {
         return Ok(sets);
@@ -34,8 +34,8 @@ pub(crate) fn candidates(
 // Puts the days of events that cover a set; false if there are none.
 fn puts_guesses(
     alloc: Global,
-    sets: &mut Vec<Folded>,
-    days: &Folded,
+    sets: &mut Vec<DayTable>,
+    days: &DayTable,
     most_days: u64,
 ) -> Result<bool, NoMemory> {
     let Some(events) = guesses(alloc, days, Target::Vcal, MAX_PARTS, MAX_EXCEPTIONS)? else {
@@ -48,7 +48,7 @@ fn puts_guesses(
 // Puts the days of events.
 fn put_events(
     alloc: Global,
-    sets: &mut Vec<Folded>,
+    sets: &mut Vec<DayTable>,
     events: &[GraphEvent],
     most_days: u64,
 ) -> Result<(), NoMemory>
@@ -65,8 +65,8 @@ fn put_events(
 // Puts days: to the last set, if one rule has both, and otherwise as a set of their own.
 fn put_days(
     alloc: Global,
-    sets: &mut Vec<Folded>,
-    days: Folded,
+    sets: &mut Vec<DayTable>,
+    days: DayTable,
     most_days: u64,
 ) -> Result<(), NoMemory> {
     match joined(alloc, sets.as_slice(), &days, most_days)? {
@@ -82,10 +82,10 @@ fn put_days(
 // The days of the last set with further ones, if one rule has them.
 fn joined(
     alloc: Global,
-    sets: &[Folded],
-    days: &Folded,
+    sets: &[DayTable],
+    days: &DayTable,
     most_days: u64,
-) -> Result<Option<Folded>, NoMemory> {
+) -> Result<Option<DayTable>, NoMemory> {
     let Some(last) = sets.last() else {
         return Ok(None);
     };

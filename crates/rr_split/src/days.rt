@@ -9,10 +9,10 @@ ghost use Rattle.rr_model.specs.declared.limits.TheConstants.{MAX_CYCLE_DAYS};
 ghost use Rattle.rr_days.specs.Sequence.{sketch};
 
 use rr_check::{Checked, admit, check};
-use rr_days::Folded;
-use rr_fold::fold;
+use rr_days::DayTable;
 use rr_graph::to_series;
 use rr_model::{Fault, GraphEvent, NoMemory};
+use rr_tabulate::tabulate;
 use std::alloc::Global;
 
 /// The days of an event; None if they go beyond a limit, or its cycle is longer than `most_days` days.
@@ -20,7 +20,7 @@ pub(crate) fn days_of(
     alloc: Global,
     event: &GraphEvent,
     most_days: u64,
-) -> Result<Option<Folded>, NoMemory>
+) -> Result<Option<DayTable>, NoMemory>
     requires { IsValidGraphEvent event.now }
     ensures { IfOk result (λ found. IfSome found (λ f.
         StandsFor (sketch f) (IsGraphOccurrence event.now))) }
@@ -28,7 +28,7 @@ pub(crate) fn days_of(
     let Some(checked) = series_of(alloc, event, most_days)? else {
         return Ok(None);
     };
-    match fold(alloc, &checked) {
+    match tabulate(alloc, &checked) {
         Ok(days) => Ok(Some(days)),
         Err(Fault::NoMemory) => Err(NoMemory),
         Err(Fault::Refused(_)) => Ok(None),

@@ -7,11 +7,11 @@ ghost use Rattle.rr_days.specs.Sequence.{sketch};
 ghost use Rattle.rr_split.specs.Left.{AreCombinable, IsBeyond, IsLeft};
 
 use rr_algebra::{Op, combine};
-use rr_days::Folded;
+use rr_days::DayTable;
 use rr_model::{Dates, Fault, MAX_CYCLE_DAYS, NoMemory};
 use rr_num::lcm_within;
+use rr_periodic::{DaySeq, days_between};
 use rr_plan::few_moments;
-use rr_word::{DaySeq, days_between};
 use std::alloc::Global;
 
 // A day so early that a period within the limit ends near.
@@ -21,10 +21,10 @@ const LATEST_SETTLED: i64 = 900_000_000;
 /// day of both, and those after which the two repeat together; or if what is left has too many moments.
 pub(crate) fn without(
     alloc: Global,
-    one: &Folded,
-    other: &Folded,
+    one: &DayTable,
+    other: &DayTable,
     most_days: u64,
-) -> Result<Option<Folded>, NoMemory>
+) -> Result<Option<DayTable>, NoMemory>
     ensures { IfOk result (λ found. IfSome found (λ f.
         IsLeft (sketch one.now) (sketch other.now) (sketch f))) }
 {
@@ -38,8 +38,8 @@ pub(crate) fn without(
 /// `most` or without end, or if they are all that the set has.
 pub(crate) fn beyond(
     alloc: Global,
-    rest: &Folded,
-    days: &Folded,
+    rest: &DayTable,
+    days: &DayTable,
     most: usize,
     most_days: u64,
 ) -> Result<Option<Dates>, NoMemory>
@@ -61,10 +61,10 @@ pub(crate) fn beyond(
 /// What either of two sets has; None if more than `most_days` days were read for it, or if it has too many moments.
 pub(crate) fn union(
     alloc: Global,
-    one: &Folded,
-    other: &Folded,
+    one: &DayTable,
+    other: &DayTable,
     most_days: u64,
-) -> Result<Option<Folded>, NoMemory> {
+) -> Result<Option<DayTable>, NoMemory> {
     if !are_compared_within(one, other, most_days) {
         return Ok(None);
     }
@@ -74,10 +74,10 @@ pub(crate) fn union(
 /// What both of two sets have; None if more than `most_days` days were read for it.
 pub(crate) fn common(
     alloc: Global,
-    one: &Folded,
-    other: &Folded,
+    one: &DayTable,
+    other: &DayTable,
     most_days: u64,
-) -> Result<Option<Folded>, NoMemory> {
+) -> Result<Option<DayTable>, NoMemory> {
     if !are_compared_within(one, other, most_days) {
         return Ok(None);
     }
@@ -88,9 +88,9 @@ pub(crate) fn common(
 fn combined(
     alloc: Global,
     op: Op,
-    one: &Folded,
-    other: &Folded,
-) -> Result<Option<Folded>, NoMemory> {
+    one: &DayTable,
+    other: &DayTable,
+) -> Result<Option<DayTable>, NoMemory> {
     let combinable = are_combinable(one, other);
     if !combinable {
         return Ok(None);
@@ -103,7 +103,7 @@ fn combined(
 }
 
 // Whether two sets are compared over at most `most_days` days.
-fn are_compared_within(a: &Folded, b: &Folded, most_days: u64) -> bool {
+fn are_compared_within(a: &DayTable, b: &DayTable, most_days: u64) -> bool {
     match lcm_within(a.period(), b.period(), most_days) {
         None => false,
         Some(cycle) => days_before_both(a, b) <= most_days.saturating_sub(cycle),
@@ -111,7 +111,7 @@ fn are_compared_within(a: &Folded, b: &Folded, most_days: u64) -> bool {
 }
 
 // How many days lie from the first occupied one of two sets up to the settled day of both.
-fn days_before_both(a: &Folded, b: &Folded) -> u64 {
+fn days_before_both(a: &DayTable, b: &DayTable) -> u64 {
     let settled = later_day(a.settled(), b.settled());
     let first = earlier_day(b.first(), earlier_day(a.first(), settled));
     days_between(first, settled)
@@ -141,7 +141,7 @@ fn earlier_day(first: Option<i64>, day: i64) -> i64
 
 // The occurrences of one set that another has not; None if the two repeat together only after too many days, or what is left has
 // too many moments.
-fn difference(alloc: Global, one: &Folded, other: &Folded) -> Result<Option<Folded>, NoMemory>
+fn difference(alloc: Global, one: &DayTable, other: &DayTable) -> Result<Option<DayTable>, NoMemory>
     ensures { IfOk result (λ found. IfSome found (λ f.
         IsLeft (sketch one.now) (sketch other.now) (sketch f))) }
 {
@@ -157,7 +157,7 @@ fn difference(alloc: Global, one: &Folded, other: &Folded) -> Result<Option<Fold
 }
 
 // The difference of two sets.
-fn combine_minus(alloc: Global, one: &Folded, other: &Folded) -> Result<Folded, Fault>
+fn combine_minus(alloc: Global, one: &DayTable, other: &DayTable) -> Result<DayTable, Fault>
     requires { AreCombinable (sketch one.now) (sketch other.now) }
     ensures { IfOk result (λ f. IsLeft (sketch one.now) (sketch other.now) (sketch f)) }
 {
@@ -165,7 +165,7 @@ fn combine_minus(alloc: Global, one: &Folded, other: &Folded) -> Result<Folded, 
 }
 
 // Whether one set can be combined with another.
-fn are_combinable(a: &Folded, b: &Folded) -> bool
+fn are_combinable(a: &DayTable, b: &DayTable) -> bool
     ensures { IsTrue result → AreCombinable (sketch a.now) (sketch b.now) }
 {
     if a.settled() > LATEST_SETTLED || b.settled() > LATEST_SETTLED {
@@ -175,7 +175,7 @@ fn are_combinable(a: &Folded, b: &Folded) -> bool
 }
 
 // Whether two sets repeat together within the limit.
-fn repeat_together(a: &Folded, b: &Folded) -> bool
+fn repeat_together(a: &DayTable, b: &DayTable) -> bool
     ensures { IsTrue result → lcm (sketch a.now).period (sketch b.now).period ≤ MAX_CYCLE_DAYS }
 {
     lcm_within(a.period(), b.period(), MAX_CYCLE_DAYS).is_some()

@@ -9,7 +9,7 @@ ghost use Rattle.rr_split.specs.declared.limits.TheConstants.{MAX_EXCEPTIONS};
 
 use crate::left::{beyond, without};
 use crate::years::are_in_years;
-use rr_days::Folded;
+use rr_days::DayTable;
 use rr_find::{Found, find};
 use rr_model::{Dates, NoMemory, VRules, VSeries};
 use std::alloc::Global;
@@ -20,7 +20,7 @@ pub(crate) struct TakenEvent {
     /// The event of vCalendar 1.0, which has one rule.
     pub event: VSeries,
     /// The set without the occurrences of the event.
-    pub left: Folded,
+    pub left: DayTable,
 }
 
 /// The event with one rule, of which these dates or moments are taken out.
@@ -44,8 +44,8 @@ pub(crate) fn event_of(alloc: Global, found: Found, minus: Dates) -> Result<VSer
 /// to 9999; or if the two sets repeat together only after more than `most_days` days.
 pub(crate) fn take_rule(
     alloc: Global,
-    rest: &Folded,
-    days: &Folded,
+    rest: &DayTable,
+    days: &DayTable,
     most: usize,
     most_days: u64,
 ) -> Result<Option<TakenEvent>, NoMemory>

@@ -12,12 +12,12 @@ use crate::begun::begins_on_pattern;
 use crate::days::days_of;
 use crate::limits::{MAX_DAYS_COMPARED, MAX_EXCEPTIONS, MAX_PARTS};
 use crate::take::{Taken, take_part};
-use rr_days::Folded;
+use rr_days::DayTable;
 use rr_graphfind::graph_of;
 use rr_guess::{Target, guesses};
 use rr_model::{Dates, GraphEvent, Kind, NoMemory};
+use rr_periodic::DaySeq;
 use rr_plan::{Part, few_moments};
-use rr_word::DaySeq;
 use std::alloc::Global;
 
 /// The series and the single occurrences of which a set is made.
@@ -38,7 +38,7 @@ pub struct Plan {
 /// are taken out of the set one after another; each is compared with what is left over as many days as `MAX_DAYS_COMPARED` divided
 /// by their number, and is passed over if they do not suffice. None comes only for a set that is without end, or has more than
 /// `MAX_EXCEPTIONS` occurrences.
-pub fn search(alloc: Global, days: Folded, most: usize) -> Result<Option<Plan>, NoMemory>
+pub fn search(alloc: Global, days: DayTable, most: usize) -> Result<Option<Plan>, NoMemory>
     requires { 1 ≤ most }
     ensures { IfOk result (AnswersSplit most (sketch days)) }
 {
@@ -50,7 +50,7 @@ pub fn search(alloc: Global, days: Folded, most: usize) -> Result<Option<Plan>, 
 }
 
 // The plan of a set that no pattern has, if there is one.
-fn plan_of_several(alloc: Global, days: Folded, most: usize) -> Result<Option<Plan>, NoMemory>
+fn plan_of_several(alloc: Global, days: DayTable, most: usize) -> Result<Option<Plan>, NoMemory>
     requires { IsGraphFound (StandsIn (sketch days)) None }
     ensures { IfOk result (AnswersSplit most (sketch days)) }
 {
@@ -87,7 +87,7 @@ fn plan_of_event(alloc: Global, kind: Kind, event: GraphEvent) -> Result<Plan, N
 }
 
 // A plan of guessed events; None if what they leave is too much.
-fn plan_by_guesses(alloc: Global, days: Folded, most: usize) -> Result<Option<Plan>, NoMemory>
+fn plan_by_guesses(alloc: Global, days: DayTable, most: usize) -> Result<Option<Plan>, NoMemory>
     requires { IsGraphFound (StandsIn (sketch days)) None }
     ensures { IfOk result (λ found. IfSome found (IsPlanOf most (sketch days))) }
 {
@@ -124,12 +124,12 @@ fn most_parts(most: usize) -> usize
 #[derive(Drop)]
 struct Parts {
     parts: Vec<Part>,
-    rest: Folded,
+    rest: DayTable,
     room: usize,
 }
 
 // Takes one event after another out of a set; those that can't be taken are passed over.
-fn take_parts(alloc: Global, days: Folded, events: &[GraphEvent]) -> Result<Parts, NoMemory>
+fn take_parts(alloc: Global, days: DayTable, events: &[GraphEvent]) -> Result<Parts, NoMemory>
     requires { All IsValidGraphEvent events.now }
     ensures split { IfOk result (λ taken.
         IsSplit (StandsIn (sketch days)) taken.parts.items (StandsIn (sketch taken.rest))) }
@@ -154,7 +154,7 @@ fn take_parts(alloc: Global, days: Folded, events: &[GraphEvent]) -> Result<Part
 // An event that is taken out of what is left, if it can be taken.
 fn next_part(
     alloc: Global,
-    rest: &Folded,
+    rest: &DayTable,
     event: GraphEvent,
     most: usize,
     most_days: u64,

@@ -7,7 +7,7 @@ ghost use Rattle.rr_days.specs.Sequence.{sketch};
 ghost use Rattle.rr_plan.specs.Plan.{BeginsOnPattern, IsTaken};
 
 use crate::left::{beyond, without};
-use rr_days::Folded;
+use rr_days::DayTable;
 use rr_model::{GraphEvent, NoMemory};
 use rr_plan::Part;
 use std::alloc::Global;
@@ -18,7 +18,7 @@ pub(crate) struct Taken {
     /// The part that was taken out.
     pub part: Part,
     /// The set without the occurrences of the part.
-    pub left: Folded,
+    pub left: DayTable,
 }
 
 /// Takes an event out of a set. What the event has and the set has not is cancelled; None if that is all of the event, more than
@@ -28,9 +28,9 @@ pub(crate) struct Taken {
 /// period past both settled days, which may be `most_days` days.
 pub(crate) fn take_part(
     alloc: Global,
-    rest: &Folded,
+    rest: &DayTable,
     event: GraphEvent,
-    days: &Folded,
+    days: &DayTable,
     most: usize,
     most_days: u64,
 ) -> Result<Option<Taken>, NoMemory>

@@ -12,11 +12,11 @@ use crate::candidates::candidates;
 use crate::limits::{MAX_DAYS_COMPARED, MAX_EXCEPTIONS, MAX_PARTS};
 use crate::rules::{event_of, take_rule};
 use crate::years::are_in_years;
-use rr_days::Folded;
+use rr_days::DayTable;
 use rr_find::{Found, find};
 use rr_model::{Dates, Kind, NoMemory, VSeries};
+use rr_periodic::DaySeq;
 use rr_plan::few_moments;
-use rr_word::DaySeq;
 use std::alloc::Global;
 
 /// The events and the single occurrences of which a set is made.
@@ -37,7 +37,7 @@ pub struct VcalPlan {
 /// another, as far as one rule has them; each is compared with what is left over as many days as `MAX_DAYS_COMPARED` divided by
 /// `MAX_PARTS`, and is passed over if they do not suffice. None comes only for a set that is without end, has more than
 /// `MAX_EXCEPTIONS` occurrences, or has one outside of the years 1 to 9999.
-pub fn search_vcal(alloc: Global, days: Folded, most: usize) -> Result<Option<VcalPlan>, NoMemory>
+pub fn search_vcal(alloc: Global, days: DayTable, most: usize) -> Result<Option<VcalPlan>, NoMemory>
     requires { 1 ≤ most }
     ensures { IfOk result (AnswersVcalSplit most (sketch days)) }
 {
@@ -49,7 +49,7 @@ pub fn search_vcal(alloc: Global, days: Folded, most: usize) -> Result<Option<Vc
 }
 
 // The plan of a set that no rule has, if there is one.
-fn plan_of_events(alloc: Global, days: Folded, most: usize) -> Result<Option<VcalPlan>, NoMemory>
+fn plan_of_events(alloc: Global, days: DayTable, most: usize) -> Result<Option<VcalPlan>, NoMemory>
     requires { IsFound (StandsIn (sketch days)) None }
     ensures { IfOk result (AnswersVcalSplit most (sketch days)) }
 {
@@ -88,7 +88,7 @@ fn plan_of_rule(alloc: Global, kind: Kind, found: Found) -> Result<VcalPlan, NoM
 // A plan of candidates; None if what they leave is too much.
 fn plan_by_candidates(
     alloc: Global,
-    days: Folded,
+    days: DayTable,
     most: usize,
 ) -> Result<Option<VcalPlan>, NoMemory>
     requires { IsFound (StandsIn (sketch days)) None }
@@ -112,7 +112,7 @@ fn plan_by_candidates(
 }
 
 // The first `most` sets of a list, or all if there are fewer.
-fn first_sets(sets: &[Folded], most: usize) -> &[Folded]
+fn first_sets(sets: &[DayTable], most: usize) -> &[DayTable]
     ensures { length result.now ≤ most }
 {
     &sets[..sets.len().min(most)]
@@ -122,15 +122,15 @@ fn first_sets(sets: &[Folded], most: usize) -> &[Folded]
 #[derive(Drop)]
 struct Events {
     events: Vec<VSeries>,
-    rest: Folded,
+    rest: DayTable,
     room: usize,
 }
 
 // Takes one set after another out of a set; those that no rule has, and those that can't be taken, are passed over.
 fn take_rules(
     alloc: Global,
-    days: Folded,
-    sets: &[Folded],
+    days: DayTable,
+    sets: &[DayTable],
     most_days: u64,
 ) -> Result<Events, NoMemory>
     ensures split { IfOk result (λ taken. IsSplitBy IsRuleEvent OccursInVseries

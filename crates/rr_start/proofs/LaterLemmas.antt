@@ -77,7 +77,7 @@ day_same false values a b many le h e = absurd (cc)
 weekday_same : (in_year wanted : Bool) (values : List DayItem) (d e : ℤ)
     → (is_absent (filled_part wanted values (day_item_of d)) || list_any (day_item_holds in_year e) (filled_part wanted values (day_item_of d))) ≡ true
     → (wanted && is_absent values) ≡ true → day_item_of d ≡ day_item_of e
-weekday_same in_year true [] d e h w = let p : weekday_of d ≡ weekday_of e = grind (arith, nat_tests) in ap (λ n. record { place = pos 0; weekday = n }) p
+weekday_same in_year true [] d e h w = let p : weekday_of d ≡ weekday_of e = grind (arith, nat_tests) in ap (λ n. record { ordinal = pos 0; weekday = n }) p
 weekday_same in_year true (x ∷ xs) d e h w = absurd (cc)
 weekday_same in_year false values d e h w = absurd (cc)
 

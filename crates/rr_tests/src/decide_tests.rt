@@ -1,10 +1,10 @@
 // The verdicts on small sets: every n days from a start.
 use rr_algebra::read_descriptor;
-use rr_days::Folded;
+use rr_days::DayTable;
 use rr_decide::{disjoint, equal, within};
 use rr_model::{MAX_CYCLE_DAYS, Verdict};
 use rr_num::lcm_within;
-use rr_word::DaySeq;
+use rr_periodic::DaySeq;
 use std::alloc::Global;
 use std::process::Abort;
 use std::test::*;
@@ -43,13 +43,13 @@ disjoint|rrcanon 2~moments~t 0~f 1970-01-01~q 1970-01-01 2~c 0 0 1~|rrcanon 2~mo
 ";
 
 // The occurrences of a canonical text.
-fn folded(rt: &impl Abort, alloc: Global, text: &str) -> Folded {
+fn day_table(rt: &impl Abort, alloc: Global, text: &str) -> DayTable {
     let text = text.replace(alloc, "~", "\n").expect(rt, "memory");
     read_descriptor(alloc, text.as_bytes()).expect(rt, "a canonical text")
 }
 
 // The verdict of this name on two sets that repeat together soon enough.
-fn verdict_of(name: &str, a: &Folded, b: &Folded) -> Option<Verdict> {
+fn verdict_of(name: &str, a: &DayTable, b: &DayTable) -> Option<Verdict> {
     lcm_within(a.period(), b.period(), MAX_CYCLE_DAYS)?;
     match name {
         "equal" => Some(equal(a, b)),
@@ -64,8 +64,8 @@ fn row_holds(rt: &impl Abort, alloc: Global, row: &str) {
     let (given, wanted) = row.rsplit_once('|').expect(rt, "a row has a verdict");
     let (given, b) = given.rsplit_once('|').expect(rt, "a row has a text B");
     let (name, a) = given.split_once('|').expect(rt, "a row has a text A");
-    let a = folded(rt, alloc, a);
-    let b = folded(rt, alloc, b);
+    let a = day_table(rt, alloc, a);
+    let b = day_table(rt, alloc, b);
     let verdict = verdict_of(name, &a, &b).expect(rt, "a row has the name of a verdict");
     let said = format!(in alloc; "{verdict:?}").expect(rt, "memory");
     assert_eq!(rt; said.as_str(), wanted, "{row}");

@@ -33,8 +33,8 @@ fn seconds_said(alloc: Global) -> Option<String> {
     printed(alloc, &seconds.as_slice())
 }
 
-fn item(place: i8, weekday: u8) -> DayItem {
-    DayItem { place, weekday }
+fn item(ordinal: i8, weekday: u8) -> DayItem {
+    DayItem { ordinal, weekday }
 }
 
 // Each Friday, each Monday, the last Monday and each Friday again.
@@ -58,7 +58,7 @@ fn items_said(alloc: Global, given: &str) -> Option<String> {
 
 // The last Monday, each Monday and each Friday.
 const DAY_ITEMS: &str = "\
-[DayItem { place: -1, weekday: 0 }, DayItem { place: 0, weekday: 0 }, DayItem { place: 0, weekday: 4 }]";
+[DayItem { ordinal: -1, weekday: 0 }, DayItem { ordinal: 0, weekday: 0 }, DayItem { ordinal: 0, weekday: 4 }]";
 
 // Items by variant, by number and by weekday, and the same backwards and twice.
 const ITEMS: &str = "\
@@ -183,7 +183,7 @@ fn lists_put_values_at_the_end(rt: HostRuntime) {
 // A rule whose copy then gets a further month, and what the copy has.
 const COPIED: &str = "\
 FREQ=YEARLY;INTERVAL=4;BYMONTH=2;BYMONTHDAY=29;BYDAY=TH|\
-(Yearly, 4, true, ([2, 3], [29], [DayItem { place: 0, weekday: 3 }]))
+(Yearly, 4, true, ([2, 3], [29], [DayItem { ordinal: 0, weekday: 3 }]))
 ";
 
 // The frequency and the interval of a rule, whether it has no hours, and its months, days of the month and weekdays.

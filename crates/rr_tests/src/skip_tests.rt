@@ -1,9 +1,9 @@
 // Days that months lack, by the SKIP of a rule.
 use crate::rows::{printed, rows_hold, three_words};
-use rr_days::Folded;
-use rr_skip::{fold_admitted, read};
+use rr_days::DayTable;
+use rr_periodic::DaySeq;
+use rr_skip::{read, tabulate_admitted};
 use rr_text::basic;
-use rr_word::DaySeq;
 use std::alloc::Global;
 
 // A start, a rule and a date, and whether the rule occurs on the date.
@@ -42,7 +42,7 @@ fn day_said(alloc: Global, given: &str) -> Option<String> {
     }
     let text = format!(in alloc; "DTSTART:{start}\nRRULE:RSCALE=GREGORIAN;{rule}\n").ok()?;
     let series = read(alloc, text.as_bytes(), None).ok()?;
-    let days = fold_admitted(alloc, &series).ok()?;
+    let days = tabulate_admitted(alloc, &series).ok()?;
     printed(alloc, &!days.at(day).is_empty())
 }
 

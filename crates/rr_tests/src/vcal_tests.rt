@@ -5,7 +5,7 @@ use std::alloc::Global;
 
 // The fifth Fridays of months from one on, and the kind and the start of the counterpart with the frequency, BYDAY and the end of its rule.
 const COUNTERPARTS: &str = "\
-DTSTART:20240329\r~RRULE:MP1 5+ FR #3\r~|(Days, 19811, Monthly, [DayItem { place: 5, weekday: 4 }], Count(3))
+DTSTART:20240329\r~RRULE:MP1 5+ FR #3\r~|(Days, 19811, Monthly, [DayItem { ordinal: 5, weekday: 4 }], Count(3))
 ";
 
 fn counterpart_said(alloc: Global, text: &str) -> Option<String> {

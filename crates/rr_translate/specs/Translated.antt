@@ -3,7 +3,7 @@ use Rattle.std.specs.Prelude.{◌≡◌, ◌⊎◌, ℕ, ◌≤◌, true, false,
 use Rattle.std.specs.Global.{Global}
 use Rattle.rr_family.specs.GraphProfile.{IsFirstPattern, IsPatternOf}
 use Rattle.rr_family.specs.Profile.{IsFirstRule, IsRuleOf}
-use Rattle.rr_fold.specs.Judged.{all_limits}
+use Rattle.rr_tabulate.specs.Judged.{all_limits}
 use Rattle.rr_model.specs.Graph.Text.{graph_written}
 use Rattle.rr_model.specs.Moment.{Occurrences}
 use Rattle.rr_model.specs.Series.Cycle.{series_cycle}

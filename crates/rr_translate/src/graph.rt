@@ -1,6 +1,6 @@
 // Into the JSON of Microsoft Graph.
 ghost use Rattle.std.specs.Prelude.{◌≤◌};
-ghost use Rattle.rr_fold.specs.Judged.{all_limits};
+ghost use Rattle.rr_tabulate.specs.Judged.{all_limits};
 ghost use Rattle.rr_model.specs.Series.Cycle.{series_cycle};
 ghost use Rattle.rr_model.specs.Series.Occurrences.{Occurs};
 ghost use Rattle.rr_model.specs.Sets.Sketch.{StandsIn};
@@ -8,11 +8,11 @@ ghost use Rattle.rr_model.specs.declared.limits.TheConstants.{MAX_CYCLE_DAYS};
 ghost use Rattle.rr_translate.specs.Translated.{HasNoPattern, IsAnswered, IsGraphText, IsSaid};
 
 use rr_check::Checked;
-use rr_fold::fold;
 use rr_graph::write;
 use rr_graphfind::graph_of;
 use rr_model::{Fault, Refusal};
-use rr_word::DaySeq;
+use rr_periodic::DaySeq;
+use rr_tabulate::tabulate;
 use std::alloc::Global;
 
 /// The text of the first pattern and range that have the occurrences of a set of days; `NotSayable` if there is none.
@@ -32,6 +32,6 @@ pub(crate) fn graph_text(alloc: Global, series: &Checked) -> Result<Vec<u8>, Fau
     ensures { IsAnswered all_limits series.now (λ text. IsGraphText (Occurs series.now) text.items)
         (HasNoPattern (Occurs series.now)) result }
 {
-    let days = fold(alloc, series)?;
+    let days = tabulate(alloc, series)?;
     graph_of_days(alloc, &days)
 }

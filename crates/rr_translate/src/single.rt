@@ -1,6 +1,6 @@
 // Into vCalendar 1.0, and into the same single rule of RFC 5545.
 ghost use Rattle.std.specs.Prelude.{◌≡◌, ◌≤◌, IfOk};
-ghost use Rattle.rr_fold.specs.Judged.{all_limits};
+ghost use Rattle.rr_tabulate.specs.Judged.{all_limits};
 ghost use Rattle.rr_model.specs.Series.Cycle.{series_cycle};
 ghost use Rattle.rr_model.specs.Series.Occurrences.{Occurs};
 ghost use Rattle.rr_model.specs.declared.limits.TheConstants.{MAX_CYCLE_DAYS};
@@ -9,8 +9,8 @@ ghost use Rattle.rr_translate.specs.Translated.{HasNoRule, IsAnswered, IsInferen
 
 use rr_check::Checked;
 use rr_find::{Found, find};
-use rr_fold::fold;
 use rr_model::{Dates, Fault, NoMemory, Refusal, VRules, VSeries};
+use rr_tabulate::tabulate;
 use std::alloc::Global;
 
 // The series of vCalendar 1.0 with the found rule alone.
@@ -35,7 +35,7 @@ fn first_series(alloc: Global, series: &Checked) -> Result<VSeries, Fault>
     ensures { IsAnswered all_limits series.now (IsFirstSeries (Occurs series.now))
         (HasNoRule (Occurs series.now)) result }
 {
-    let days = fold(alloc, series)?;
+    let days = tabulate(alloc, series)?;
     match find(alloc, &days)? {
         None => Err(Fault::Refused(Refusal::NotSayable)),
         Some(found) => Ok(series_of(alloc, found)?),

@@ -16,7 +16,7 @@ use std::alloc::Global;
 ///
 /// Into RFC 5545 each series has a text. Into the two other languages the first rule or pattern is written that has the
 /// occurrences: `CountedTooFar` if a rule counts a member too many days after its start, then `TooManyMoments`, as for
-/// `fold`, and then `NotSayable` if there is none.
+/// `tabulate`, and then `NotSayable` if there is none.
 pub fn translate(alloc: Global, series: &Checked, target: Lang) -> Result<Vec<u8>, Fault>
     requires few { series_cycle series.now ≤ MAX_CYCLE_DAYS }
     ensures { IsTranslationAnswer target series.now result }
@@ -31,7 +31,7 @@ pub fn translate(alloc: Global, series: &Checked, target: Lang) -> Result<Vec<u8
 /// The first single rule that has the occurrences of a series, as a text of RFC 5545: D, W, MD, MP, YM or YD of vCalendar 1.0,
 /// in the words of RFC 5545. Its cycle is at most `MAX_CYCLE_DAYS`, as `admit` gives it.
 ///
-/// `CountedTooFar`, then `TooManyMoments`, as for `fold`, and then `NotSayable` if no such rule has the occurrences.
+/// `CountedTooFar`, then `TooManyMoments`, as for `tabulate`, and then `NotSayable` if no such rule has the occurrences.
 pub fn infer(alloc: Global, series: &Checked) -> Result<Vec<u8>, Fault>
     requires few { series_cycle series.now ≤ MAX_CYCLE_DAYS }
     ensures { IsInferenceAnswer series.now result }

@@ -12,7 +12,7 @@ use Rattle.rr_seam.specs.Marks.{no_marks}
 use Rattle.rr_seam.specs.declared.key.Key.TheVariants.{Line, Number, Uid}
 use Rattle.rr_seam.specs.declared.refusal.KeyRefusal.TheVariants.{TwoSeries}
 use Rattle.rr_title.specs.Title.{front_length}
-use Rattle.rr_trip.specs.Likeness.{keys_by, local_text, mark_of, numbers_text, utc_text, with_some_title, with_title}
+use Rattle.rr_trip.specs.Likeness.{keys_by, local_text, text_by, numbers_text, utc_text, with_some_title, with_title}
 use Rattle.rr_trip.specs.Printed.{line_text, name_text, said_line, said_text}
 use Rattle.rr_trip.specs.Readings.{Reading, reading_of}
 use Rattle.rr_trip.specs.Said.{is_empty, said_of_empty}
@@ -79,39 +79,39 @@ abbrev untitled : FirstTimes → Features
 untitled first = record { title = []; times = first }
 
 -- refused events are alike by their title, though it is empty, and by nothing else
-refused : mark_of likeness.Moments (tea times.Unread) ≡ Some (codes "x\nTea")
+refused : text_by likeness.Moments (tea times.Unread) ≡ Some (codes "x\nTea")
 refused = refl
 
-refused_untitled : mark_of likeness.Moments (untitled times.Unread) ≡ Some (codes "x\n")
+refused_untitled : text_by likeness.Moments (untitled times.Unread) ≡ Some (codes "x\n")
 refused_untitled = refl
 
-refused_times : mark_of likeness.Times (tea times.Unread) ≡ None
+refused_times : text_by likeness.Times (tea times.Unread) ≡ None
 refused_times = refl
 
 -- two events of a zone, at these local times and moments
 module _ (local moments : Vec ℤ Global) (local_is : local.items ≡ pos 60 ∷ pos 120 ∷ []) (moments_are : moments.items ≡ negsuc 59 ∷ pos 0 ∷ []) where
   -- by their title and their moments
-  by_moments : mark_of likeness.Moments (tea (times.Zoned local moments)) ≡ with_title (codes "Tea") (utc_text (negsuc 59 ∷ pos 0 ∷ []))
+  by_moments : text_by likeness.Moments (tea (times.Zoned local moments)) ≡ with_title (codes "Tea") (utc_text (negsuc 59 ∷ pos 0 ∷ []))
   by_moments = ap (λ (us : List ℤ). with_title (codes "Tea") (Some (unwrap_or (utc_text us) (codes "n")))) moments_are
 
   -- those in which nothing occurs by their title alone
-  none_occurs : local.items ≡ [] → mark_of likeness.Moments (tea (times.Local Days local)) ≡ Some (codes "n\nTea")
+  none_occurs : local.items ≡ [] → text_by likeness.Moments (tea (times.Local Days local)) ≡ Some (codes "n\nTea")
   none_occurs none = ap (λ (ts : List ℤ). with_title (codes "Tea") (Some (unwrap_or (local_text Days ts) (codes "n")))) none
 
   -- by their title and their local times
-  by_times : mark_of likeness.Times (tea (times.Zoned local moments)) ≡ with_title (codes "Tea") (local_text Moments (pos 60 ∷ pos 120 ∷ []))
+  by_times : text_by likeness.Times (tea (times.Zoned local moments)) ≡ with_title (codes "Tea") (local_text Moments (pos 60 ∷ pos 120 ∷ []))
   by_times = ap (λ (ts : List ℤ). with_title (codes "Tea") (local_text Moments ts)) local_is
 
   -- by their title and the first moment
-  by_start : mark_of likeness.Start (tea (times.Zoned local moments)) ≡ with_title (codes "Tea") (utc_text (negsuc 59 ∷ []))
+  by_start : text_by likeness.Start (tea (times.Zoned local moments)) ≡ with_title (codes "Tea") (utc_text (negsuc 59 ∷ []))
   by_start = ap (λ (us : List ℤ). with_some_title (codes "Tea") (utc_text (take 1 us))) moments_are
 
   -- events without a title are not found again by the first moment
-  untitled_start : mark_of likeness.Start (untitled (times.Zoned local moments)) ≡ None
+  untitled_start : text_by likeness.Start (untitled (times.Zoned local moments)) ≡ None
   untitled_start = refl
 
   -- by their moments alone
-  by_moments_alone : mark_of likeness.OtherTitle (tea (times.Zoned local moments)) ≡ utc_text (negsuc 59 ∷ pos 0 ∷ [])
+  by_moments_alone : text_by likeness.OtherTitle (tea (times.Zoned local moments)) ≡ utc_text (negsuc 59 ∷ pos 0 ∷ [])
   by_moments_alone = ap utc_text moments_are
 
 -- the texts of these

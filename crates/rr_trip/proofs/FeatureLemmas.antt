@@ -22,7 +22,7 @@ use Rattle.rr_true.specs.Changes.{offset_of}
 use Rattle.rr_true.specs.Moments.{IsTrueMoment}
 use Rattle.rr_true.specs.Near.{IsNear}
 use Rattle.rr_trip.specs.Features.{AreTimesBy, AreTimesIn, AreTrueMoments, zone_of_names}
-use Rattle.rr_trip.specs.Judged.{IsFoldOf}
+use Rattle.rr_trip.specs.Judged.{IsDayTableOf}
 use Rattle.rr_trip.specs.Known.{IsKnownZone, IsNamedAt}
 use Rattle.rr_trip.specs.Said.{occurs_at}
 use Rattle.rr_trip.specs.Zoned.{Meaning, meaning_of}
@@ -58,14 +58,14 @@ from_first_day Moments t h =
     omega (arith, ints, a, b, h)
 
 -- the first numbers that are taken from the first day of all on are the first occurrences
-pub first_occur : (series : Series) (s : Sketch) (low : ℤ) (n : ℕ) (ts : List ℤ) → IsFoldOf series s → low ≡ moment_at s.kind first_day_of_all 0
+pub first_occur : (series : Series) (s : Sketch) (low : ℤ) (n : ℕ) (ts : List ℤ) → IsDayTableOf series s → low ≡ moment_at s.kind first_day_of_all 0
     → AreFirst (IsTaken s low None) n ts → AreFirst (occurs_at series) n ts
-first_occur series s low n ts fold e h =
+first_occur series s low n ts table e h =
     first_same (IsTaken s low None) (occurs_at series) n ts
-    (λ t p. subst (λ k. Occurs series k t) fold.kind ((fold.stands s.kind t).0 p.stands))
-    (λ t q. (let o = subst (λ k. Occurs series k t) (sym fold.kind) q in record {
-      stands = (fold.stands s.kind t).1 o;
-      from = subst (λ (x : ℤ). x ≤ℤ t) (sym e) (from_first_day s.kind t ((from_year_one (day_part s.kind t)).0 (fold.from_year_one s.kind t o)));
+    (λ t p. subst (λ k. Occurs series k t) table.kind ((table.stands s.kind t).0 p.stands))
+    (λ t q. (let o = subst (λ k. Occurs series k t) (sym table.kind) q in record {
+      stands = (table.stands s.kind t).1 o;
+      from = subst (λ (x : ℤ). x ≤ℤ t) (sym e) (from_first_day s.kind t ((from_year_one (day_part s.kind t)).0 (table.from_year_one s.kind t o)));
       below = tt;
     })) h
 
@@ -116,16 +116,16 @@ times_meant means zones name i zone series times known named e h =
 -- ---- the events of a key
 
 -- they state a series
-pub times_stated : (means : Meaning) (stated : Stated) (key : KeyDays) (times : FirstTimes) → stated.series ≡ Ok key.series → IsFoldOf key.series (sketch key.days)
+pub times_stated : (means : Meaning) (stated : Stated) (key : KeyDays) (times : FirstTimes) → stated.series ≡ Ok key.series → IsDayTableOf key.series (sketch key.days)
     → key.zones.items ≡ stated.zones → AreTimesIn (zone_of_names means key.series.kind key.zones.items) key.series times → AreTimesBy means stated times
-times_stated means stated key Unread e fold zones h = absurd h
-times_stated means stated key (Local kind local) e fold zones h = record {
+times_stated means stated key Unread e table zones h = absurd h
+times_stated means stated key (Local kind local) e table zones h = record {
   series = key.series;
-  states = record { states = e; unrefused = fold.unrefused };
+  states = record { states = e; unrefused = table.unrefused };
   first = subst (λ names. AreTimesIn (zone_of_names means key.series.kind names) key.series (Local kind local)) zones h;
 }
-times_stated means stated key (Zoned local moments) e fold zones h = record {
+times_stated means stated key (Zoned local moments) e table zones h = record {
   series = key.series;
-  states = record { states = e; unrefused = fold.unrefused };
+  states = record { states = e; unrefused = table.unrefused };
   first = subst (λ names. AreTimesIn (zone_of_names means key.series.kind names) key.series (Zoned local moments)) zones h;
 }

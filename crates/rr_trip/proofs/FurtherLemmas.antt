@@ -13,12 +13,12 @@ use Rattle.rr_model.specs.declared.rule.Series.{Series}
 use Rattle.rr_model.specs.declared.sketch.Sketch.{Sketch}
 use Rattle.rr_model.proofs.RisingSetLemmas.{Contains-tail}
 use Rattle.rr_model.proofs.YearLemmas.{from_year_one}
-use Rattle.rr_trip.specs.Judged.{IsFoldOf}
+use Rattle.rr_trip.specs.Judged.{IsDayTableOf}
 use Rattle.rr_trip.specs.Printed.{IsPrintableFurther}
 use Rattle.rr_trip.proofs.SaidLemmas.{holds_from_year_one}
 
 -- the last one has an occurrence of a series, and so a year from 1 on
-printable_further : (a b : Series) (s u : Sketch) → IsFoldOf a s → IsFoldOf b u → (further : Further) → IsFurther (StandsIn s) (StandsIn u) further
+printable_further : (a b : Series) (s u : Sketch) → IsDayTableOf a s → IsDayTableOf b u → (further : Further) → IsFurther (StandsIn s) (StandsIn u) further
     → LastIsUpToMaxDay further → IsPrintableFurther further
 printable_further a b s u fa fb NoMore h day = tt
 printable_further a b s u fa fb (Until count last) h day =
@@ -31,7 +31,7 @@ printable_further a b s u fa fb Many h day = tt
 printable_further a b s u fa fb ForEver h day = tt
 
 -- so what is told of them can be printed
-pub further_printable : {E : Type 0} (a b : Series) (s u : Sketch) → IsFoldOf a s → IsFoldOf b u → (r : Result Further E)
+pub further_printable : {E : Type 0} (a b : Series) (s u : Sketch) → IsDayTableOf a s → IsDayTableOf b u → (r : Result Further E)
     → IfOk r (IsFurther (StandsIn s) (StandsIn u)) → IfOk r LastIsUpToMaxDay → IfOk r IsPrintableFurther
 further_printable a b s u fa fb (Ok further) h day = printable_further a b s u fa fb further h day
 further_printable a b s u fa fb (Err e) h day = tt

@@ -1,7 +1,7 @@
 -- What is judged of the series of a key.
 use Rattle.std.proofs.Common.{◌≡◌, ℕ, ◌<◌, ◌≤◌, inl, inr, Option, None, Some, Result, Ok, Err, refl, subst, sym, ap, arith}
 use Rattle.std.proofs.lemmas.Bool.{cases_lt}
-use Rattle.rr_fold.specs.Judged.{IsFoldJudged, all_limits}
+use Rattle.rr_tabulate.specs.Judged.{IsDayTableJudged, all_limits}
 use Rattle.rr_model.specs.Series.Cycle.{series_cycle}
 use Rattle.rr_model.specs.Series.FirstRefusal.{IsFirstRefusal, IsLimitRefusal, IsRefusalOr}
 use Rattle.rr_model.specs.Series.Occurrences.{Occurs}
@@ -21,7 +21,7 @@ use Rattle.rr_seam.specs.declared.file.KeySeries.{KeySeries}
 use Rattle.rr_seam.specs.declared.refusal.KeyFault.{KeyFault}
 use Rattle.rr_seam.specs.declared.refusal.KeyFault.TheVariants as key_fault
 use Rattle.rr_seam.specs.declared.refusal.KeyRefusal.{KeyRefusal}
-use Rattle.rr_trip.specs.Judged.{IsFaultBy, IsFaultOf, IsFoldOf, IsKeyFault, IsKeyRefusal, IsRefusalBy}
+use Rattle.rr_trip.specs.Judged.{IsFaultBy, IsFaultOf, IsDayTableOf, IsKeyFault, IsKeyRefusal, IsRefusalBy}
 use Rattle.rr_model.proofs.YearOneLemmas.{occurs_from_year_one}
 
 -- a rule does not fit the start
@@ -36,9 +36,9 @@ module _ (series checked : Series) (same : checked ≡ series) (sound : first_re
       rw sound (inl ((refl, long), ap Some h.0))
 
   -- its days are worked out
-  pub folded : (sketch : Sketch) → IsValidSeries series → StandsFor sketch (Occurs checked) → sketch.kind ≡ checked.kind → sketch.period ≡ series_cycle checked
-      → IsLimitRefusal all_limits checked None → IsFoldOf series sketch
-  folded sketch valid stands kind period judged = record {
+  pub tabulated : (sketch : Sketch) → IsValidSeries series → StandsFor sketch (Occurs checked) → sketch.kind ≡ checked.kind → sketch.period ≡ series_cycle checked
+      → IsLimitRefusal all_limits checked None → IsDayTableOf series sketch
+  tabulated sketch valid stands kind period judged = record {
     unrefused = rw sound (subst (λ (s : Series). IsLimitRefusal all_limits s None) same judged);
     from_year_one = λ k t h. occurs_from_year_one series k t valid h;
     stands = subst (λ (s : Series). StandsFor sketch (Occurs s)) same stands;
@@ -47,9 +47,9 @@ module _ (series checked : Series) (same : checked ≡ series) (sound : first_re
   }
 
   -- a limit refuses it, or memory was wanting
-  pub not_folded : (X : Type 0) (f : Fault) → IsFoldJudged {X = X} checked (Err f) → IsFaultOf series f
-  not_folded X (Refused r) judged = rw sound (subst (λ (s : Series). IsLimitRefusal all_limits s (Some r)) same judged)
-  not_folded X NoMemory judged = tt
+  pub not_tabulated : (X : Type 0) (f : Fault) → IsDayTableJudged {X = X} checked (Err f) → IsFaultOf series f
+  not_tabulated X (Refused r) judged = rw sound (subst (λ (s : Series). IsLimitRefusal all_limits s (Some r)) same judged)
+  not_tabulated X NoMemory judged = tt
 
 -- ---- the period of its days
 
@@ -63,10 +63,10 @@ cycle_is_short series (inl h) = (let e = h.1 in absurd (cc))
 cycle_is_short series (inr h) = elim (cases_lt 16_777_216 (series_cycle series)) [ inl l ↦ absurd (h.0 (refl, l)) | inr g ↦ omega (arith, g) ]
 
 -- the days of a series repeat within the limit on cycles
-pub folded_is_short : (series : Series) (sketch : Sketch) → IsFoldOf series sketch → sketch.period ≤ MAX_CYCLE_DAYS
-folded_is_short series sketch fold =
-    subst (λ n. n ≤ MAX_CYCLE_DAYS) (sym fold.period)
-    (cycle_is_short series (none_before (first_refusal series) (IsLimitRefusal all_limits series) fold.unrefused))
+pub table_is_short : (series : Series) (sketch : Sketch) → IsDayTableOf series sketch → sketch.period ≤ MAX_CYCLE_DAYS
+table_is_short series sketch table =
+    subst (λ n. n ≤ MAX_CYCLE_DAYS) (sym table.period)
+    (cycle_is_short series (none_before (first_refusal series) (IsLimitRefusal all_limits series) table.unrefused))
 
 -- ---- the events of a key
 

@@ -6,7 +6,7 @@ use Rattle.rr_length.specs.declared.other.OtherLength.{OtherLength}
 use Rattle.rr_model.specs.Series.Occurrences.{Occurs}
 use Rattle.rr_model.specs.declared.rule.Series.{Series}
 use Rattle.rr_model.specs.declared.sketch.Sketch.{Sketch}
-use Rattle.rr_trip.specs.Judged.{IsFoldOf}
+use Rattle.rr_trip.specs.Judged.{IsDayTableOf}
 use Rattle.rr_model.specs.declared.verdict.Verdict.{Verdict}
 use Rattle.rr_model.specs.declared.verdict.Verdict.TheVariants.{Yes, No}
 use Rattle.rr_trip.specs.Laws.{IsLengthSaid, LengthIsExact}
@@ -20,7 +20,7 @@ abbrev pub AreSame : (ℤ → Type 0) → (ℤ → Type 0) → Type 0
 AreSame P Q = (t : ℤ) → (P t → Q t) × (Q t → P t)
 
 -- the days of a series have its occurrences
-pub same_occurrences : (series : Series) (s : Sketch) → IsFoldOf series s → AreSame (occurs_in s) (occurs_at series)
+pub same_occurrences : (series : Series) (s : Sketch) → IsDayTableOf series s → AreSame (occurs_in s) (occurs_at series)
 same_occurrences series s f t = (
   λ o. subst (λ k. Occurs series k t) f.kind ((f.stands s.kind t).0 o),
   λ o. (f.stands s.kind t).1 (subst (λ k. Occurs series k t) (sym f.kind) o),

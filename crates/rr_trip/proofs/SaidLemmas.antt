@@ -26,7 +26,7 @@ use Rattle.rr_seam.specs.declared.refusal.KeyFault.{KeyFault}
 use Rattle.rr_seam.specs.declared.refusal.KeyFault.TheVariants as key_fault
 use Rattle.rr_seam.specs.declared.refusal.KeyRefusal.{KeyRefusal}
 use Rattle.rr_text.specs.Printed.{IsPrintable}
-use Rattle.rr_trip.specs.Judged.{IsFoldOf, IsKeyFault, IsKeyRefusal}
+use Rattle.rr_trip.specs.Judged.{IsDayTableOf, IsKeyFault, IsKeyRefusal}
 use Rattle.rr_trip.specs.Pairs.{IsBeside, IsFaultTold, IsJudged, IsJudgedBoth, IsJudgedWith, IsKept, IsPairOf, IsPairWith, IsSaidOfJudged, IsSaidOfPair, IsSound, days_beside, lengths_beside, marks_beside, marks_of_judged, reading_of_pair, series_b, series_beside, zones_beside}
 use Rattle.rr_trip.specs.Readings.{Reading, Zone, reading_of}
 use Rattle.rr_trip.specs.Said.{IsAlikeTo, IsComparison, IsPrintableSaid, IsRefusedOn, IsSaid, IsSaidBehind, IsSaidBy, IsSaidOfBoth, IsSaidWithLengths, has_equal_times, is_compared, is_empty, is_nothing, marks_said, occurs_at, said_alone, said_of_empty, said_of_moments}
@@ -50,7 +50,7 @@ verdict_kept P P' Q Q' f g (No k t side) h = (
 
 -- ---- both state days
 
-module _ (a b : Series) (s u : Sketch) (fa : IsFoldOf a s) (fb : IsFoldOf b u) where
+module _ (a b : Series) (s u : Sketch) (fa : IsDayTableOf a s) (fb : IsDayTableOf b u) where
   pub holds_from_year_one : (side : Side) (k : Kind) (t : ℤ) → HoldsOnlyOf side (StandsIn s k t) (StandsIn u k t) → IsFromYearOne (day_part k t)
   holds_from_year_one A k t h = fa.from_year_one k t ((fa.stands k t).0 h.0)
   holds_from_year_one B k t h = fb.from_year_one k t ((fb.stands k t).0 h.0)
@@ -72,13 +72,13 @@ module _ (a b : Series) (s u : Sketch) (fa : IsFoldOf a s) (fb : IsFoldOf b u) w
 -- the same series has the same days
 pub kept_same : (a : KeyDays) (b : KeySeries) (beside : Beside) → series_beside a.series beside ≡ a.series → zones_beside beside ≡ b.zones.items
     → lengths_beside beside ≡ b.lengths → marks_beside beside ≡ b.marks → days_beside a.days beside ≡ a.days → a.series ≡ b.series
-    → IsFoldOf a.series (sketch a.days) → IsKept a b beside
-kept_same a b beside same zones lengths marks days e folded = record {
+    → IsDayTableOf a.series (sketch a.days) → IsKept a b beside
+kept_same a b beside same zones lengths marks days e tabulated = record {
   series = same ∙ e;
   zones = zones;
   lengths = lengths;
   marks = marks;
-  folded = subst (λ (s : Series). IsFoldOf s (sketch (days_beside a.days beside))) (sym same) (subst (λ d. IsFoldOf a.series (sketch d)) (sym days) folded);
+  tabulated = subst (λ (s : Series). IsDayTableOf s (sketch (days_beside a.days beside))) (sym same) (subst (λ d. IsDayTableOf a.series (sketch d)) (sym days) tabulated);
 }
 
 -- what is kept of a series is kept of the one that is stated
@@ -88,7 +88,7 @@ kept_beside a b key beside stated kept = record {
   zones = kept.zones ∙ stated.zones;
   lengths = kept.lengths ∙ stated.lengths;
   marks = kept.marks ∙ stated.marks;
-  folded = kept.folded;
+  tabulated = kept.tabulated;
 }
 
 -- the local times of the same days are equal
@@ -112,8 +112,8 @@ refused_alike a b r judged is alike h = rw h (record { refused = is; alike = ali
 
 -- the days of both are a pair
 pub pair_of : (a b : Stated) (days : KeyDays) (pair : KeyPair) → a.series ≡ Ok days.series → days.zones.items ≡ a.zones
-    → days.lengths ≡ a.lengths → days.marks ≡ a.marks → IsFoldOf days.series (sketch days.days) → IsPairWith days b pair → IsPairOf a b pair
-pair_of a b days pair states zones lengths marks folded beside = record {
+    → days.lengths ≡ a.lengths → days.marks ≡ a.marks → IsDayTableOf days.series (sketch days.days) → IsPairWith days b pair → IsPairOf a b pair
+pair_of a b days pair states zones lengths marks tabulated beside = record {
   states_a = states ∙ ap (λ (d : KeyDays). Ok d.series) (sym beside.same);
   states_b = beside.of_b.states;
   zones_a = ap (λ (d : KeyDays). d.zones.items) beside.same ∙ zones;
@@ -123,8 +123,8 @@ pair_of a b days pair states zones lengths marks folded beside = record {
   marks_a = ap (λ (d : KeyDays). d.marks) beside.same ∙ marks;
   marks_b = beside.of_b.marks;
   is_pair = record {
-    of_a = subst (λ (d : KeyDays). IsFoldOf d.series (sketch d.days)) (sym beside.same) folded;
-    of_b = beside.of_b.folded;
+    of_a = subst (λ (d : KeyDays). IsDayTableOf d.series (sketch d.days)) (sym beside.same) tabulated;
+    of_b = beside.of_b.tabulated;
     is_local = beside.is_local;
     day = beside.day;
   };
@@ -132,17 +132,17 @@ pair_of a b days pair states zones lengths marks folded beside = record {
 
 -- what is known beside the days of A is known of both
 pub judged_both : (a b : Stated) (days : KeyDays) (judged : Judged) → a.series ≡ Ok days.series → days.zones.items ≡ a.zones
-    → days.lengths ≡ a.lengths → days.marks ≡ a.marks → IsFoldOf days.series (sketch days.days) → IsJudgedWith days b judged → IsJudgedBoth a b judged
-judged_both a b days (Told (said.Only side)) states zones lengths marks folded h = absurd h
-judged_both a b days (Told (said.Refused A refusal)) states zones lengths marks folded h = absurd h
-judged_both a b days (Told (said.Refused B refusal)) states zones lengths marks folded h =
-    record { series = days.series; first = record { states = states; unrefused = folded.unrefused }; refused = h }
-judged_both a b days (Told (said.Refused Both refusal)) states zones lengths marks folded h = absurd h
-judged_both a b days (Told (said.Alike refusal)) states zones lengths marks folded h = absurd h
-judged_both a b days (Told (said.Floating side)) states zones lengths marks folded h = absurd h
-judged_both a b days (Told (said.Length other)) states zones lengths marks folded h = absurd h
-judged_both a b days (Told (said.Compared verdict zs)) states zones lengths marks folded h = absurd h
-judged_both a b days (Compared pair) states zones lengths marks folded h = pair_of a b days pair states zones lengths marks folded h
+    → days.lengths ≡ a.lengths → days.marks ≡ a.marks → IsDayTableOf days.series (sketch days.days) → IsJudgedWith days b judged → IsJudgedBoth a b judged
+judged_both a b days (Told (said.Only side)) states zones lengths marks tabulated h = absurd h
+judged_both a b days (Told (said.Refused A refusal)) states zones lengths marks tabulated h = absurd h
+judged_both a b days (Told (said.Refused B refusal)) states zones lengths marks tabulated h =
+    record { series = days.series; first = record { states = states; unrefused = tabulated.unrefused }; refused = h }
+judged_both a b days (Told (said.Refused Both refusal)) states zones lengths marks tabulated h = absurd h
+judged_both a b days (Told (said.Alike refusal)) states zones lengths marks tabulated h = absurd h
+judged_both a b days (Told (said.Floating side)) states zones lengths marks tabulated h = absurd h
+judged_both a b days (Told (said.Length other)) states zones lengths marks tabulated h = absurd h
+judged_both a b days (Told (said.Compared verdict zs)) states zones lengths marks tabulated h = absurd h
+judged_both a b days (Compared pair) states zones lengths marks tabulated h = pair_of a b days pair states zones lengths marks tabulated h
 
 -- ---- a calendar without events of the key
 

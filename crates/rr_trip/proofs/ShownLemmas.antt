@@ -98,8 +98,8 @@ pub pair_of_both : (P : Verdict → Sketch → Sketch → Type 0) (a b : Stated)
 pair_of_both P a b pair is h = record {
   days_a = sketch pair.a.days;
   days_b = sketch (days_b pair);
-  of_a = record { series = pair.a.series; states = is.states_a; folded = is.is_pair.of_a };
-  of_b = record { series = series_b pair; states = is.states_b; folded = is.is_pair.of_b };
+  of_a = record { series = pair.a.series; states = is.states_a; tabulated = is.is_pair.of_a };
+  of_b = record { series = series_b pair; states = is.states_b; tabulated = is.is_pair.of_b };
   verdict = pair.local;
   is_verdict = is.is_pair.is_local;
   tells = h;

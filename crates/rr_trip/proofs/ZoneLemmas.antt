@@ -5,7 +5,7 @@ use Rattle.std.specs.Option.{is_some}
 use Rattle.std.proofs.lemmas.Bool.{true≢false}
 use Rattle.std.proofs.lemmas.Int.{ints}
 use Rattle.rr_days.specs.Sequence.{sketch}
-use Rattle.rr_days.specs.declared.folded.Folded.{Folded}
+use Rattle.rr_days.specs.declared.day_table.DayTable.{DayTable}
 use Rattle.rr_decide.proofs.StandsLemmas.{first_occurrence_at, nothing_stands}
 use Rattle.rr_model.specs.Moment.{Occurrences, day_part, moment_at}
 use Rattle.rr_model.specs.Series.Cycle.{series_cycle}
@@ -247,14 +247,14 @@ module _ (pair : KeyPair) (is : IsPair pair) where
   some_if_a (Some d) s e first v t = some_of_a pair is d v first
 
   -- the first day of B is some
-  pub some_if_b : (days : Folded) (r : Option ℤ) (s : Bool) → days ≡ days_b pair → s ≡ is_some r → IsFirstDay (sketch days) r → IsValidSketch (sketch days) → s ≡ true
+  pub some_if_b : (days : DayTable) (r : Option ℤ) (s : Bool) → days ≡ days_b pair → s ≡ is_some r → IsFirstDay (sketch days) r → IsValidSketch (sketch days) → s ≡ true
       → HasSome (Occurs pair.a.series) (Occurs (series_b pair))
   some_if_b days None s ed e first v t = absurd (true≢false (sym t ∙ e))
   some_if_b days (Some d) s ed e first v t =
       some_of_b pair is d (subst (λ f. IsValidSketch (sketch f)) ed v) (subst (λ f. IsFirstDay (sketch f) (Some d)) ed first)
 
   -- both have no first day
-  pub none_if : (days : Folded) (r r' : Option ℤ) (s s' : Bool) → days ≡ days_b pair → s ≡ is_some r → s' ≡ is_some r' → IsFirstDay (sketch pair.a.days) r
+  pub none_if : (days : DayTable) (r r' : Option ℤ) (s s' : Bool) → days ≡ days_b pair → s ≡ is_some r → s' ≡ is_some r' → IsFirstDay (sketch pair.a.days) r
       → IsFirstDay (sketch days) r' → s ≡ false → s' ≡ false → HasSome (Occurs pair.a.series) (Occurs (series_b pair)) → ⊥
   none_if days (Some d) r' s s' ed e e' first first' f f' h = absurd (true≢false (sym e ∙ f))
   none_if days None (Some d) s s' ed e e' first first' f f' h = absurd (true≢false (sym e' ∙ f'))

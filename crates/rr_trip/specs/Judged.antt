@@ -1,7 +1,7 @@
 -- The events of a key in one calendar, as days (RFC 5545, section 3.8.5).
 use Rattle.std.specs.Prelude.{◌≡◌, ℕ, Bool, true, false, None, Some, Result, Ok, Err, ⊤}
 use Rattle.rr_days.specs.Sequence.{sketch}
-use Rattle.rr_fold.specs.Judged.{all_limits}
+use Rattle.rr_tabulate.specs.Judged.{all_limits}
 use Rattle.rr_model.specs.Moment.Years.{OccurFromYearOne}
 use Rattle.rr_model.specs.Series.Cycle.{series_cycle}
 use Rattle.rr_model.specs.Series.FirstRefusal.{IsFirstRefusal}
@@ -22,7 +22,7 @@ use Rattle.rr_trip.specs.declared.judge.KeyDays.{KeyDays}
 -- ---- a series
 
 -- the series is refused by no limit, and the sketch stands for its occurrences, is of its kind and repeats after its cycle
-pub record IsFoldOf (series : Series) (sketch : Sketch) : Type 0 where
+pub record IsDayTableOf (series : Series) (sketch : Sketch) : Type 0 where
   pub unrefused : IsFirstRefusal all_limits series None
   pub from_year_one : OccurFromYearOne (Occurs series)
   pub stands : StandsFor sketch (Occurs series)
@@ -40,7 +40,7 @@ pub record AreDaysOfKey (key : KeySeries) (made : KeyDays) : Type 0 where
   pub zones : made.zones ≡ key.zones
   pub lengths : made.lengths ≡ key.lengths
   pub marks : made.marks ≡ key.marks
-  pub folded : IsFoldOf made.series (sketch made.days)
+  pub tabulated : IsDayTableOf made.series (sketch made.days)
 
 -- ---- the events of a key
 

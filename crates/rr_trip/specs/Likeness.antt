@@ -77,15 +77,15 @@ first_text (Local kind local) = unwrap_or (local_text kind local.items) (codes "
 first_text (Zoned local moments) = unwrap_or (utc_text moments.items) (codes "n")
 
 -- events are alike by their first moments and their title, which may be empty
-abbrev pub moments_mark : Features → Option (List ℕ)
-moments_mark features = with_title features.title (Some (first_text features.times))
+abbrev pub titled_moments : Features → Option (List ℕ)
+titled_moments features = with_title features.title (Some (first_text features.times))
 
 -- By what events are alike, if they can be at all: events with one text of these are.
-abbrev pub mark_of : Likeness → Features → Option (List ℕ)
-mark_of Moments features = moments_mark features
-mark_of Times features = with_title features.title (times_text features.times)
-mark_of Start features = with_some_title features.title (start_text features.times)
-mark_of OtherTitle features = moments_text features.times
+abbrev pub text_by : Likeness → Features → Option (List ℕ)
+text_by Moments features = titled_moments features
+text_by Times features = with_title features.title (times_text features.times)
+text_by Start features = with_some_title features.title (start_text features.times)
+text_by OtherTitle features = moments_text features.times
 
 -- only events that are the only ones with their text in each calendar are paired
 abbrev pub is_only : Likeness → Bool
@@ -97,19 +97,19 @@ is_only OtherTitle = true
 -- ---- keys by which the elements of two lists are paired
 
 -- the key of an element: its text; without one a key by its index that is of its calendar alone
-abbrev pub key_of_mark : Side → ℕ → Option (List ℕ) → Key
-key_of_mark side n (Some text) = key.Uid text
-key_of_mark A n None = key.Line n
-key_of_mark B n None = key.Number n
-key_of_mark Both n None = key.Line n
+abbrev pub key_of_text : Side → ℕ → Option (List ℕ) → Key
+key_of_text side n (Some text) = key.Uid text
+key_of_text A n None = key.Line n
+key_of_text B n None = key.Number n
+key_of_text Both n None = key.Line n
 
 -- by what an element is alike to others: nothing if it has no features, or is found again already
-abbrev pub mark_at : Likeness → Option Features → Option Found → Option (List ℕ)
-mark_at likeness None found = None
-mark_at likeness (Some features) None = mark_of likeness features
-mark_at likeness (Some features) (Some found) = None
+abbrev pub text_at : Likeness → Option Features → Option Found → Option (List ℕ)
+text_at likeness None found = None
+text_at likeness (Some features) None = text_by likeness features
+text_at likeness (Some features) (Some found) = None
 
 -- the keys of elements, whose indexes count from this one on
 abbrev pub keys_by : Likeness → Side → ℕ → List (Option Features) → List (Option Found) → List Key
-keys_by likeness side n (f ∷ fs) (p ∷ ps) = key_of_mark side n (mark_at likeness f p) ∷ keys_by likeness side (n + 1) fs ps
+keys_by likeness side n (f ∷ fs) (p ∷ ps) = key_of_text side n (text_at likeness f p) ∷ keys_by likeness side (n + 1) fs ps
 keys_by likeness side n fs ps = []

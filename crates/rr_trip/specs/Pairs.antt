@@ -1,7 +1,7 @@
 -- What the events of a key state in both calendars, as days (RFC 5545, section 3.8.5).
 use Rattle.std.specs.Prelude.{◌≡◌, ℕ, Bool, true, false, List, Option, None, Some, Ok}
 use Rattle.rr_days.specs.Sequence.{sketch}
-use Rattle.rr_days.specs.declared.folded.Folded.{Folded}
+use Rattle.rr_days.specs.declared.day_table.DayTable.{DayTable}
 use Rattle.rr_decide.specs.Occurrence.{NamesUpToMaxDay}
 use Rattle.rr_model.specs.Sets.Sketch.{StandsIn}
 use Rattle.rr_model.specs.Sets.Verdict.{IsEqualVerdict}
@@ -17,7 +17,7 @@ use Rattle.rr_seam.specs.declared.file.KeySeries.{KeySeries}
 use Rattle.rr_seam.specs.declared.marks.Marks.{Marks}
 use Rattle.rr_seam.specs.declared.refusal.KeyFault.{KeyFault}
 use Rattle.rr_seam.specs.declared.refusal.KeyFault.TheVariants as key_fault
-use Rattle.rr_trip.specs.Judged.{IsFoldOf, IsKeyRefusal}
+use Rattle.rr_trip.specs.Judged.{IsDayTableOf, IsKeyRefusal}
 use Rattle.rr_trip.specs.Readings.{Reading, reading_of}
 use Rattle.rr_trip.specs.Said.{IsAlike, IsPrintableSaid, IsRefusedOn, IsSaidBehind, IsSaidBy, IsSaidWithLengths, occurs_at, said_alone}
 use Rattle.rr_trip.specs.Zoned.{Meaning}
@@ -36,7 +36,7 @@ series_beside a (Same zones lengths marks) = a
 series_beside a (Other b) = b.series
 
 -- the days of B beside those of A
-abbrev pub days_beside : Folded → Beside → Folded
+abbrev pub days_beside : DayTable → Beside → DayTable
 days_beside a (Same zones lengths marks) = a
 days_beside a (Other b) = b.days
 
@@ -60,13 +60,13 @@ abbrev pub series_b : KeyPair → Series
 series_b pair = series_beside pair.a.series pair.b
 
 -- the days of the events in B
-abbrev pub days_b : KeyPair → Folded
+abbrev pub days_b : KeyPair → DayTable
 days_b pair = days_beside pair.a.days pair.b
 
 -- the days are those of both series, and their local times are compared
 pub record IsPair (pair : KeyPair) : Type 0 where
-  pub of_a : IsFoldOf pair.a.series (sketch pair.a.days)
-  pub of_b : IsFoldOf (series_b pair) (sketch (days_b pair))
+  pub of_a : IsDayTableOf pair.a.series (sketch pair.a.days)
+  pub of_b : IsDayTableOf (series_b pair) (sketch (days_b pair))
   pub is_local : IsEqualVerdict (StandsIn (sketch pair.a.days)) (StandsIn (sketch (days_b pair))) pair.local
   pub day : NamesUpToMaxDay pair.local
 
@@ -76,7 +76,7 @@ pub record IsBeside (a : KeyDays) (b : Stated) (beside : Beside) : Type 0 where
   pub zones : zones_beside beside ≡ b.zones
   pub lengths : lengths_beside beside ≡ b.lengths
   pub marks : marks_beside beside ≡ b.marks
-  pub folded : IsFoldOf (series_beside a.series beside) (sketch (days_beside a.days beside))
+  pub tabulated : IsDayTableOf (series_beside a.series beside) (sketch (days_beside a.days beside))
 
 -- both calendars state series, of which these are the days
 pub record IsPairOf (a b : Stated) (pair : KeyPair) : Type 0 where
@@ -111,7 +111,7 @@ pub record IsKept (a : KeyDays) (b : KeySeries) (beside : Beside) : Type 0 where
   pub zones : zones_beside beside ≡ b.zones.items
   pub lengths : lengths_beside beside ≡ b.lengths
   pub marks : marks_beside beside ≡ b.marks
-  pub folded : IsFoldOf (series_beside a.series beside) (sketch (days_beside a.days beside))
+  pub tabulated : IsDayTableOf (series_beside a.series beside) (sketch (days_beside a.days beside))
 
 -- B states a series, and these are its days beside those of A
 pub record IsPairWith (a : KeyDays) (b : Stated) (pair : KeyPair) : Type 0 where

@@ -129,18 +129,18 @@ zones_text Local = []
 zones_text Unknown = []
 zones_text (Moments ahead only_zones) = ahead_text ahead
 
--- the mark of equal local times of which nobody can tell whether they are the same moments
-abbrev pub equal_mark : Zones → List ℕ
-equal_mark Local = []
-equal_mark Unknown = codes " zone"
-equal_mark (Moments ahead only_zones) = []
+-- the word behind equal local times of which nobody can tell whether they are the same moments
+abbrev pub zone_if_equal : Zones → List ℕ
+zone_if_equal Local = []
+zone_if_equal Unknown = codes " zone"
+zone_if_equal (Moments ahead only_zones) = []
 
--- the mark of a difference that only the zones make
-abbrev pub differs_mark : Zones → List ℕ
-differs_mark Local = []
-differs_mark Unknown = []
-differs_mark (Moments ahead true) = codes " zone"
-differs_mark (Moments ahead false) = []
+-- the word behind a difference that only the zones make
+abbrev pub zone_if_differs : Zones → List ℕ
+zone_if_differs Local = []
+zone_if_differs Unknown = []
+zone_if_differs (Moments ahead true) = codes " zone"
+zone_if_differs (Moments ahead false) = []
 
 -- the moment that one side alone has, with its offset there, and the side
 abbrev pub moment_text : Kind → ℤ → Side → Zones → List ℕ
@@ -148,8 +148,8 @@ moment_text kind at side zones = extended_text kind at ++ zones_text zones ++ co
 
 -- a verdict on a key as it is printed
 abbrev pub verdict_text : List ℕ → Verdict → Zones → List ℕ
-verdict_text key Yes zones = codes "equal " ++ key ++ equal_mark zones
-verdict_text key (No kind at side) zones = codes "differs " ++ key ++ codes " no " ++ moment_text kind at side zones ++ differs_mark zones
+verdict_text key Yes zones = codes "equal " ++ key ++ zone_if_equal zones
+verdict_text key (No kind at side) zones = codes "differs " ++ key ++ codes " no " ++ moment_text kind at side zones ++ zone_if_differs zones
 
 -- how many occurrences exactly one of both has beside the first, and which is the last of them
 abbrev pub further_text : Further → List ℕ

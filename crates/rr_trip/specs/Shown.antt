@@ -15,7 +15,7 @@ use Rattle.rr_seam.specs.Stated.{Stated}
 use Rattle.rr_seam.specs.declared.key.Key.{Key}
 use Rattle.rr_title.specs.Title.{title_text}
 use Rattle.rr_trip.specs.Grid.{HasPicture, IsPictureOf}
-use Rattle.rr_trip.specs.Judged.{IsFoldOf}
+use Rattle.rr_trip.specs.Judged.{IsDayTableOf}
 use Rattle.rr_trip.specs.Printed.{asked_text, further_text, key_text, said_line}
 use Rattle.rr_groups.specs.Groups.{AreGroups}
 use Rattle.rr_groups.specs.declared.group.Group.{Group}
@@ -143,7 +143,7 @@ pub record IsUnknown (name : List ℕ) (shown : Shown) : Type 0 where
 pub record AreDaysOf (stated : Stated) (days : Sketch) : Type 0 where
   pub series : Series
   pub states : stated.series ≡ Ok series
-  pub folded : IsFoldOf series days
+  pub tabulated : IsDayTableOf series days
 
 -- The text says how many occurrences exactly one of two sets of days has beside the first, and until when; behind that stands the
 -- picture of the months from a day on.

@@ -4,7 +4,7 @@ ghost use Rattle.rr_days.specs.Sequence.{sketch};
 ghost use Rattle.rr_true.specs.Changes.{offset_of};
 ghost use Rattle.rr_true.specs.Near.{IsNear};
 ghost use Rattle.rr_trip.specs.Features.{AreFeatures, AreFirstTimes, AreTimesBy, AreTimesIn, AreTrueMoments, zone_of_names};
-ghost use Rattle.rr_trip.specs.Judged.{IsFoldOf};
+ghost use Rattle.rr_trip.specs.Judged.{IsDayTableOf};
 ghost use Rattle.rr_trip.specs.Known.{IsKnownZone};
 ghost use Rattle.rr_trip.specs.Zoned.{meaning_of};
 
@@ -13,9 +13,9 @@ use crate::known::KnownNames;
 use crate::zones::one_name;
 use rr_model::{Bytes, Kind, NoMemory, moment_at};
 use rr_next::first_numbers;
+use rr_periodic::DaySeq;
 use rr_seam::{EventFile, KeyFault};
 use rr_true::{Offsets, ZoneNames};
-use rr_word::DaySeq;
 use std::alloc::Global;
 
 /// By how many of their first occurrences events are found again.
@@ -56,7 +56,7 @@ pub struct Features {
 
 // The first occurrences of the days of a key.
 fn first_times(alloc: Global, key: &KeyDays) -> Result<Vec<i64>, NoMemory>
-    requires { IsFoldOf key.now.series (sketch key.now.days) }
+    requires { IsDayTableOf key.now.series (sketch key.now.days) }
     ensures first { IfOk result (λ times. AreFirstTimes key.now.series times.items) }
     ensures near { IfOk result (λ times. All IsNear times.items) }
 {
@@ -79,7 +79,7 @@ fn moments_of(alloc: Global, zone: &Offsets, times: &[i64]) -> Result<Vec<i64>, 
 
 // The first occurrences of the days of a key, as moments too if their zone is known.
 fn times_in(alloc: Global, zone: &Option<Offsets>, key: &KeyDays) -> Result<FirstTimes, NoMemory>
-    requires { IsFoldOf key.now.series (sketch key.now.days) }
+    requires { IsDayTableOf key.now.series (sketch key.now.days) }
     ensures { IfOk result (AreTimesIn (option_map offset_of zone.now) key.now.series) }
 {
     let local = first_times(alloc, key)?;
@@ -104,7 +104,7 @@ fn times_named<N: ZoneNames>(
     key: &KeyDays,
 ) -> Result<FirstTimes, NoMemory>
     requires known { All (IsKnownZone (N.meaning names.now)) known.old.zones.items }
-    requires folded { IsFoldOf key.now.series (sketch key.now.days) }
+    requires tabulated { IsDayTableOf key.now.series (sketch key.now.days) }
     ensures known { OnOk result (All (IsKnownZone (N.meaning names.now)) known.new.zones.items) }
     ensures times { IfOk result
         (AreTimesIn (meaning_of (N.meaning names.now) name.now) key.now.series) }
@@ -122,7 +122,7 @@ fn times_of_days<N: ZoneNames>(
     key: &KeyDays,
 ) -> Result<FirstTimes, NoMemory>
     requires known { All (IsKnownZone (N.meaning names.now)) known.old.zones.items }
-    requires folded { IsFoldOf key.now.series (sketch key.now.days) }
+    requires tabulated { IsDayTableOf key.now.series (sketch key.now.days) }
     ensures known { OnOk result (All (IsKnownZone (N.meaning names.now)) known.new.zones.items) }
     ensures times { IfOk result (AreTimesIn
         (zone_of_names (N.meaning names.now) key.now.series.kind key.now.zones.items)

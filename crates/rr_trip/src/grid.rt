@@ -8,8 +8,8 @@ use crate::printing::push;
 use crate::verdict::two_digits;
 use rr_cal::{date_of, days_in_month, weekday};
 use rr_model::{Kind, MAX_DAY, NoMemory};
+use rr_periodic::DaySeq;
 use rr_text::push_unsigned;
-use rr_word::DaySeq;
 use std::alloc::Global;
 
 // The farthest day either way whose months are painted, so that each of their days is one that a sequence takes.

@@ -2,45 +2,45 @@
 ghost use Rattle.std.specs.Prelude.{◌≡◌, IfErr, IfOk, Ok};
 ghost use Rattle.rr_model.specs.Series.Validity.{IsValidSeries};
 ghost use Rattle.rr_days.specs.Sequence.{sketch};
-ghost use Rattle.rr_trip.specs.Judged.{AreDaysOfKey, IsFaultBy, IsFaultOf, IsFoldOf, IsKeyFault};
+ghost use Rattle.rr_trip.specs.Judged.{AreDaysOfKey, IsFaultBy, IsFaultOf, IsDayTableOf, IsKeyFault};
 
 use rr_check::{Checked, admit, check};
-use rr_days::Folded;
-use rr_fold::fold;
+use rr_days::DayTable;
 use rr_length::KeyLengths;
 use rr_model::{Bytes, Fault, Series};
 use rr_seam::{EventFile, KeyFault, KeySeries, Marks, at_event};
+use rr_tabulate::tabulate;
 use std::alloc::Global;
 
 // A series that no limit refuses, and its days.
 #[derive(Drop)]
 struct SeriesDays {
     series: Checked,
-    days: Folded,
+    days: DayTable,
 }
 
 // The days of a series. The refusal is the first by all limits.
 fn days_of(alloc: Global, series: Series) -> Result<SeriesDays, Fault>
     requires { IsValidSeries series }
     ensures accepted { IfOk result
-        (λ made. (made.series ≡ series) × IsFoldOf made.series (sketch made.days)) }
+        (λ made. (made.series ≡ series) × IsDayTableOf made.series (sketch made.days)) }
     ensures refused { IfErr result (IsFaultOf series) }
 {
     let series = check(series)?;
     admit(&series)?;
-    match fold(alloc, &series) {
+    match tabulate(alloc, &series) {
         Ok(days) => Ok(SeriesDays { series, days }),
         Err(fault) => Err(fault),
     }
 }
 
-/// The series that the events of a key state in one calendar, judged, and the days that it is folded into.
+/// The series that the events of a key state in one calendar, judged, and its day table.
 #[derive(Drop)]
 pub struct KeyDays {
     /// The series, which no limit refuses.
     pub series: Checked,
-    /// The days that the series is folded into.
-    pub days: Folded,
+    /// The day table of the series.
+    pub days: DayTable,
     /// The names of the zones in which its events state their moments.
     pub zones: Vec<Bytes>,
     /// How long its occurrences are, if that can be told.
@@ -74,7 +74,7 @@ pub fn key_days<F: EventFile>(
     indexes: &[usize],
 ) -> Result<KeyDays, KeyFault>
     ensures states { IfOk result (λ key. (F.stated file.now indexes.now).series ≡ Ok key.series) }
-    ensures folded { IfOk result (λ key. IsFoldOf key.series (sketch key.days)) }
+    ensures tabulated { IfOk result (λ key. IsDayTableOf key.series (sketch key.days)) }
     ensures zones { IfOk result (λ key. key.zones.items ≡ (F.stated file.now indexes.now).zones) }
     ensures lengths { IfOk result (λ key. key.lengths ≡ (F.stated file.now indexes.now).lengths) }
     ensures marks { IfOk result (λ key. key.marks ≡ (F.stated file.now indexes.now).marks) }

@@ -1,6 +1,6 @@
 // By what events of two calendars are taken as the same though they have other keys.
 ghost use Rattle.std.specs.Prelude.{◌≡◌, [], ◌∷◌, ◌++◌, take, IfOk, OnOk};
-ghost use Rattle.rr_trip.specs.Likeness.{first_text, is_only, key_of_mark, keys_by, kind_letter, local_text, mark_at, mark_of, moments_mark, moments_text, number_text, numbers_text, start_text, times_text, utc_text, with_some_title, with_title};
+ghost use Rattle.rr_trip.specs.Likeness.{first_text, is_only, key_of_text, keys_by, kind_letter, local_text, text_at, text_by, titled_moments, moments_text, number_text, numbers_text, start_text, times_text, utc_text, with_some_title, with_title};
 
 use crate::features::{Features, FirstTimes};
 use crate::found::Found;
@@ -174,24 +174,24 @@ fn first_text(alloc: Global, times: &FirstTimes) -> Result<Bytes, NoMemory>
 }
 
 // By what events are alike with their title, which may be empty.
-fn moments_mark(alloc: Global, features: &Features) -> Result<Option<Bytes>, NoMemory>
-    ensures { IfOk result (λ mark. mark ≡ moments_mark features.now) }
+fn titled_moments(alloc: Global, features: &Features) -> Result<Option<Bytes>, NoMemory>
+    ensures { IfOk result (λ mark. mark ≡ titled_moments features.now) }
 {
     let text = first_text(alloc, &features.times)?;
     with_title(features.title.as_slice(), Some(text))
 }
 
 // By what events are alike, if they can be at all.
-fn mark_of(
+fn text_by(
     alloc: Global,
     likeness: Likeness,
     features: &Features,
 ) -> Result<Option<Bytes>, NoMemory>
-    ensures { IfOk result (λ mark. mark ≡ mark_of likeness features.now) }
+    ensures { IfOk result (λ mark. mark ≡ text_by likeness features.now) }
 {
     let title = features.title.as_slice();
     match likeness {
-        Likeness::Moments => moments_mark(alloc, features),
+        Likeness::Moments => titled_moments(alloc, features),
         Likeness::Times => with_title(title, times_text(alloc, &features.times)?),
         Likeness::Start => with_some_title(title, start_text(alloc, &features.times)?),
         Likeness::OtherTitle => moments_text(alloc, &features.times),
@@ -201,23 +201,23 @@ fn mark_of(
 // ---- keys by which the elements of two lists are paired
 
 // By what an element is alike to others: nothing if it has no features, or is found again already.
-fn mark_at(
+fn text_at(
     alloc: Global,
     likeness: Likeness,
     features: &Option<Features>,
     found: Option<Found>,
 ) -> Result<Option<Bytes>, NoMemory>
-    ensures { IfOk result (λ mark. mark ≡ mark_at likeness features.now found) }
+    ensures { IfOk result (λ mark. mark ≡ text_at likeness features.now found) }
 {
     match (features, found) {
-        (Some(features), None) => mark_of(alloc, likeness, features),
+        (Some(features), None) => text_by(alloc, likeness, features),
         (None, _) | (Some(_), Some(_)) => Ok(None),
     }
 }
 
-// The key of an element by its mark; without one a key that no other element of either calendar has.
-fn key_of_mark(side: Side, index: u64, mark: Option<Bytes>) -> Key
-    ensures { result ≡ key_of_mark side index mark }
+// The key of an element by its text; without one a key that no other element of either calendar has.
+fn key_of_text(side: Side, index: u64, mark: Option<Bytes>) -> Key
+    ensures { result ≡ key_of_text side index mark }
 {
     match (mark, side) {
         (Some(text), _) => Key::Uid(text),
@@ -239,8 +239,8 @@ pub fn keys_by(
 {
     let mut keys = Vec::new(alloc);
     for index in 0..features.len().min(found.len()) {
-        let mark = mark_at(alloc, likeness, &features[index], found[index])?;
-        keys.push(key_of_mark(side, index as u64, mark))?;
+        let mark = text_at(alloc, likeness, &features[index], found[index])?;
+        keys.push(key_of_text(side, index as u64, mark))?;
     }
     Ok(keys)
 }

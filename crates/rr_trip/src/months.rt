@@ -9,7 +9,7 @@ use crate::grid::{
     usual_times,
 };
 use rr_model::NoMemory;
-use rr_word::DaySeq;
+use rr_periodic::DaySeq;
 use std::alloc::Global;
 
 // The sign of each of days in a row.

@@ -6,7 +6,7 @@ ghost use Rattle.rr_model.specs.Series.Validity.{IsValidSeries};
 ghost use Rattle.rr_model.specs.Sets.Sketch.{StandsIn};
 ghost use Rattle.rr_model.specs.Sets.Verdict.{IsEqualVerdict};
 ghost use Rattle.rr_trip.specs.declared.pair.Judged.TheVariants.{Told};
-ghost use Rattle.rr_trip.specs.Judged.{IsFaultBy, IsFoldOf, IsKeyFault, IsKeyRefusal, IsRefused, IsWhether};
+ghost use Rattle.rr_trip.specs.Judged.{IsFaultBy, IsDayTableOf, IsKeyFault, IsKeyRefusal, IsRefused, IsWhether};
 ghost use Rattle.rr_trip.specs.Pairs.{IsBeside, IsFaultTold, IsJudged, IsJudgedBoth, IsJudgedWith, IsKept, days_b, days_beside, lengths_beside, marks_beside, marks_of_judged, zones_beside};
 ghost use Rattle.rr_trip.specs.Report.{stated_in};
 ghost use Rattle.rr_trip.specs.Said.{IsAlikeTo, is_empty, said_alone, said_of_empty};
@@ -15,7 +15,7 @@ ghost use Rattle.rr_seam.specs.Words.{are_same_words};
 use crate::judge::{KeyDays, days_of_key, key_days};
 use crate::said::{Said, Zones};
 use crate::same::is_same_series;
-use rr_days::Folded;
+use rr_days::DayTable;
 use rr_decide::equal;
 use rr_length::KeyLengths;
 use rr_model::{Bytes, NoMemory, Series, Side, Verdict, first_refusal_is_one};
@@ -59,7 +59,7 @@ pub enum Judged {
 }
 
 // The days of B: those of A if both state the same series.
-fn days_beside<'a>(a: &'a Folded, b: &'a Beside) -> &'a Folded
+fn days_beside<'a>(a: &'a DayTable, b: &'a Beside) -> &'a DayTable
     ensures { result.now ≡ days_beside a.now b.now }
 {
     match b {
@@ -70,7 +70,7 @@ fn days_beside<'a>(a: &'a Folded, b: &'a Beside) -> &'a Folded
 
 impl KeyPair {
     /// The days of B, which may be those of A.
-    pub fn days_b(&self) -> &Folded
+    pub fn days_b(&self) -> &DayTable
         ensures { result.now ≡ days_b self.now }
     {
         days_beside(&self.a.days, &self.b)
@@ -122,7 +122,7 @@ impl Judged {
 // What is kept of what B states beside the days of A. If it is the same series, its days are not worked out again.
 fn kept_beside(alloc: Global, a: &KeyDays, b: KeySeries) -> Result<Beside, KeyFault>
     requires valid { IsValidSeries b.series }
-    requires folded { IsFoldOf a.now.series (sketch a.now.days) }
+    requires tabulated { IsDayTableOf a.now.series (sketch a.now.days) }
     ensures kept { IfOk result (IsKept a.now b) }
     ensures refused { IfErr result (IsFaultBy b.place b.series) }
 {
@@ -146,7 +146,7 @@ fn beside_of<F: EventFile>(
     file: &F,
     b: &[usize],
 ) -> Result<Beside, KeyFault>
-    requires folded { IsFoldOf a.now.series (sketch a.now.days) }
+    requires tabulated { IsDayTableOf a.now.series (sketch a.now.days) }
     ensures beside { IfOk result (IsBeside a.now (F.stated file.now b.now)) }
     ensures refused { IfErr result (IsKeyFault (F.stated file.now b.now)) }
 {
@@ -185,7 +185,7 @@ fn judged_with<F: EventFile>(
     file: &F,
     b: &[usize],
 ) -> Result<Judged, NoMemory>
-    requires { IsFoldOf a.series (sketch a.days) }
+    requires { IsDayTableOf a.series (sketch a.days) }
     ensures { IfOk result (IsJudgedWith a (F.stated file.now b.now)) }
 {
     match beside_of(alloc, &a, file, b) {

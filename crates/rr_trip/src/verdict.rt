@@ -3,7 +3,7 @@ ghost use Rattle.std.specs.Prelude.{◌≡◌, ◌<◌, ◌++◌, OnOk};
 ghost use Rattle.rr_model.specs.Text.Moments.{decimal_of};
 ghost use Rattle.rr_text.specs.Printed.{IsPrintable, IsPrintableAt};
 ghost use Rattle.rr_true.specs.Changes.{IsBelowDay};
-ghost use Rattle.rr_trip.specs.Printed.{ahead_text, differs_mark, equal_mark, moment_text, offset_text, zones_text, seconds_text, verdict_text};
+ghost use Rattle.rr_trip.specs.Printed.{ahead_text, zone_if_differs, zone_if_equal, moment_text, offset_text, zones_text, seconds_text, verdict_text};
 ghost use Rattle.rr_trip.specs.Said.{ArePrintableZones, IsPrintableAhead};
 
 use crate::printing::push;
@@ -67,9 +67,9 @@ fn push_zones(out: &mut Vec<u8>, zones: Zones) -> Result<(), NoMemory>
     }
 }
 
-// The mark behind an equal key.
-fn equal_mark(zones: Zones) -> &'static [u8]
-    ensures { result.now ≡ equal_mark zones }
+// The word behind an equal key.
+fn zone_if_equal(zones: Zones) -> &'static [u8]
+    ensures { result.now ≡ zone_if_equal zones }
 {
     match zones {
         Zones::Unknown => b" zone",
@@ -77,9 +77,9 @@ fn equal_mark(zones: Zones) -> &'static [u8]
     }
 }
 
-// The mark behind a key that differs.
-fn differs_mark(zones: Zones) -> &'static [u8]
-    ensures { result.now ≡ differs_mark zones }
+// The word behind a key that differs.
+fn zone_if_differs(zones: Zones) -> &'static [u8]
+    ensures { result.now ≡ zone_if_differs zones }
 {
     match zones {
         Zones::Moments {
@@ -123,14 +123,14 @@ pub(crate) fn push_compared(
         Verdict::Yes => {
             push(out, b"equal ")?;
             push(out, name)?;
-            push(out, equal_mark(zones))
+            push(out, zone_if_equal(zones))
         }
         Verdict::No { kind, at, side } => {
             push(out, b"differs ")?;
             push(out, name)?;
             push(out, b" no ")?;
             push_moment(out, kind, at, side, zones)?;
-            push(out, differs_mark(zones))
+            push(out, zone_if_differs(zones))
         }
     }
 }

@@ -24,10 +24,10 @@ use crate::lengths::said_behind;
 use crate::pair::{Judged, KeyPair};
 use crate::said::{Ahead, Said, Zones};
 use rr_model::{Bytes, Kind, NoMemory, Side, Verdict, day_part};
+use rr_periodic::DaySeq;
 use rr_true::{Apart, Offsets, ZoneNames};
 use rr_utc::equal_moments;
 use rr_windows::is_same_zone;
-use rr_word::DaySeq;
 use std::alloc::Global;
 
 // The first and the last day that can be printed: 0001-01-01, and the greatest.

@@ -6,7 +6,7 @@ use Rattle.std.specs.Ordering.{int_eq}
 use Rattle.std.proofs.Math.Nat.{dvd-mul_left, mul-dvd-mul_right}
 use Rattle.std.proofs.lemmas.Int.{by_lt_z, clamps, ints}
 use Rattle.rr_model.specs.Whole.Periodic.{RepeatsFrom}
-use Rattle.rr_word.proofs.WindowLemmas.{RepeatsFrom-multiple}
+use Rattle.rr_periodic.proofs.WindowLemmas.{RepeatsFrom-multiple}
 use Rattle.rr_true.specs.Apart.{AreApart, AreNeverApart, IsPartedTo, parted_by}
 use Rattle.rr_true.specs.Spans.{IsSpan}
 use Rattle.rr_true.specs.declared.parted.Apart.{Apart}

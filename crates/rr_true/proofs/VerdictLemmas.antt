@@ -15,8 +15,8 @@ use Rattle.rr_model.specs.declared.verdict.Side.TheVariants.{A, B, Both}
 use Rattle.rr_model.specs.declared.verdict.Verdict.TheVariants.{No}
 use Rattle.rr_model.proofs.DaysAndTimesLemmas.{moment_is, second_part-below}
 use Rattle.rr_model.proofs.MomentLemmas.{day_part-moment_at, second_part-moment_at}
-use Rattle.rr_word.proofs.SketchLemmas.{repeats_from}
-use Rattle.rr_word.proofs.WindowLemmas.{RepeatsFrom-multiple, window_lasts}
+use Rattle.rr_periodic.proofs.SketchLemmas.{repeats_from}
+use Rattle.rr_periodic.proofs.WindowLemmas.{RepeatsFrom-multiple, window_lasts}
 use Rattle.rr_true.specs.Moments.{IsOffset, IsTrueMoment}
 use Rattle.rr_true.specs.Occurrences.{AreEqualForAll, IsFirstOf, IsPlain, OccurrencesRepeat, TrueOf, utc}
 

@@ -3,7 +3,7 @@ ghost use Rattle.rr_model.specs.Sets.Sketch.{StandsIn};
 ghost use Rattle.rr_true.specs.Laws.{AgreeingBelow, AgreeingZonesAgree, EqualZonesEqualMoments, FloatingDiffers, LocalNoIsTrueNo, OneZoneEqualMoments, SketchRepeats};
 ghost use Rattle.rr_true.specs.Laws.{TrueMomentIsNear, TrueMomentIsOne, TrueMomentsRepeat, TrueSetRepeats, UtcIsItself, ZonesAgreeForEver};
 
-use rr_word::DaySeq;
+use rr_periodic::DaySeq;
 
 /// A local time names one moment at most.
 pub fn true_moment_is_one()

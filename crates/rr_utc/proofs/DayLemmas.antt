@@ -12,7 +12,7 @@ use Rattle.rr_model.proofs.DaysAndTimesLemmas.{moment_is, second_part-below}
 use Rattle.rr_model.proofs.MomentLemmas.{day_part-moment_at, second_part-moment_at}
 use Rattle.rr_model.proofs.RisingSetLemmas.{Contains-cons_cases, Contains-head, Contains-none, Contains-tail}
 use Rattle.rr_model.proofs.WithValueLemmas.{with_value-has, with_value-keeps, with_value-only}
-use Rattle.rr_word.proofs.SketchLemmas.{second_fits}
+use Rattle.rr_periodic.proofs.SketchLemmas.{second_fits}
 use Rattle.rr_true.specs.Moments.{IsOffset, IsTrueMoment}
 use Rattle.rr_true.proofs.MomentLemmas.{true_is_near, true_is_one}
 use Rattle.rr_utc.specs.Days.{AreTrueOn, AreWithMoment, AreWithNamed, NamedOn, TrueOn}

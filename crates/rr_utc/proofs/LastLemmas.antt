@@ -14,9 +14,9 @@ use Rattle.rr_model.specs.declared.sketch.Sketch.{Sketch}
 use Rattle.rr_model.proofs.DaysAndTimesLemmas.{moment_is, second_part-below}
 use Rattle.rr_model.proofs.MomentLemmas.{day_part-moment_at, second_part-moment_at}
 use Rattle.rr_model.proofs.RisingSetLemmas.{Contains-none}
-use Rattle.rr_word.proofs.SketchLemmas.{repeats_from}
-use Rattle.rr_word.proofs.WindowLemmas.{RepeatsFrom-later, RepeatsFrom-multiple, window_lasts}
-use Rattle.rr_word.specs.Stretches.{AreFree}
+use Rattle.rr_periodic.proofs.SketchLemmas.{repeats_from}
+use Rattle.rr_periodic.proofs.WindowLemmas.{RepeatsFrom-later, RepeatsFrom-multiple, window_lasts}
+use Rattle.rr_periodic.specs.Stretches.{AreFree}
 use Rattle.rr_true.specs.Moments.{IsOffset}
 use Rattle.rr_true.specs.Occurrences.{OccurrencesRepeat, TrueOf}
 use Rattle.rr_true.proofs.MomentLemmas.{set_repeats, true_is_near}

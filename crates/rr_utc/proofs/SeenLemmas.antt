@@ -13,7 +13,7 @@ use Rattle.rr_model.specs.declared.kind.Kind.TheVariants.{Moments}
 use Rattle.rr_model.specs.declared.sketch.Sketch.{Sketch}
 use Rattle.rr_model.proofs.DaysAndTimesLemmas.{moment_is, second_part-below}
 use Rattle.rr_model.proofs.MomentLemmas.{day_part-moment_at, second_part-moment_at}
-use Rattle.rr_word.specs.Stretches.{IsNumberOn}
+use Rattle.rr_periodic.specs.Stretches.{IsNumberOn}
 use Rattle.rr_true.specs.Moments.{IsOffset}
 use Rattle.rr_true.specs.Occurrences.{TrueOf}
 use Rattle.rr_true.proofs.MomentLemmas.{put_off, true_is_near}

@@ -3,7 +3,7 @@ use Rattle.std.specs.Prelude.{◌≡◌, ℕ, List, Some, ℤ, pos, ◌+ℤ◌, 
 use Rattle.std.specs.List.{Contains}
 use Rattle.rr_model.specs.Sets.Sketch.{StandsIn}
 use Rattle.rr_model.specs.declared.sketch.Sketch.{Sketch}
-use Rattle.rr_word.specs.Stretches.{IsNumberOn}
+use Rattle.rr_periodic.specs.Stretches.{IsNumberOn}
 use Rattle.rr_true.specs.Occurrences.{TrueOf}
 use Rattle.rr_utc.specs.Between.{AgreeBetween}
 use Rattle.rr_utc.specs.declared.about.About.{About}

@@ -4,8 +4,8 @@ ghost use Rattle.rr_true.specs.Changes.{offset_of};
 ghost use Rattle.rr_utc.specs.Seen.{AreNumbersAbout, IsAbout, IsCalm, IsCalmAbout};
 
 use rr_model::SECONDS_OF_DAY;
+use rr_periodic::DaySeq;
 use rr_true::Offsets;
-use rr_word::DaySeq;
 
 /// A stretch of moments of UTC in which neither of two zones changes.
 #[derive(Clone, Copy)]

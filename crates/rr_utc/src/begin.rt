@@ -11,8 +11,8 @@ ghost use Rattle.rr_utc.specs.Walks.{HasNoDayBefore};
 ghost use Rattle.rr_utc.specs.Zones.{AreOneBetween, last_equal_day};
 
 use rr_model::{Kind, SECONDS_OF_DAY, Verdict, day_part};
+use rr_periodic::DaySeq;
 use rr_true::Offsets;
-use rr_word::DaySeq;
 
 /// The first occupied day of a sequence; of an empty one any near day.
 pub fn first_day<A: DaySeq>(seq: &A) -> i64

@@ -6,8 +6,8 @@ ghost use Rattle.rr_true.specs.Changes.{offset_of};
 ghost use Rattle.rr_utc.specs.Days.{AreTrueOn, AreWithMoment, AreWithNamed};
 
 use rr_model::{Dates, Kind, NoMemory, day_part, moment_at};
+use rr_periodic::DaySeq;
 use rr_true::Offsets;
-use rr_word::DaySeq;
 use std::alloc::Global;
 
 // Puts a moment that lies on the day.

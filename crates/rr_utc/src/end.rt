@@ -10,8 +10,8 @@ ghost use Rattle.rr_utc.specs.Walks.{HasNoDayFrom, IsCommonCycle, IsLong, IsLong
 
 use rr_model::SECONDS_OF_DAY;
 use rr_num::lcm_within;
+use rr_periodic::DaySeq;
 use rr_true::{Offsets, ZoneCycle};
-use rr_word::DaySeq;
 
 // The most days of a common cycle that are walked.
 const LONGEST_WALK: u64 = 100_000_000;

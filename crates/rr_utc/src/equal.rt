@@ -14,8 +14,8 @@ use crate::only::Only;
 use crate::walk::first_difference;
 use crate::zones::{apart_for, are_equal_apart};
 use rr_model::{Kind, NoMemory, Verdict};
+use rr_periodic::DaySeq;
 use rr_true::{Apart, Offsets};
-use rr_word::DaySeq;
 use std::alloc::Global;
 
 // The verdict of what a walk finds.

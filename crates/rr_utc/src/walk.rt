@@ -14,8 +14,8 @@ use crate::merge::first_only;
 use crate::only::Only;
 use crate::seen::Seen;
 use rr_model::NoMemory;
+use rr_periodic::DaySeq;
 use rr_true::Offsets;
-use rr_word::DaySeq;
 use std::alloc::Global;
 
 // The first moment on a day of UTC that one of two series alone has.

@@ -13,8 +13,8 @@ use crate::begin::{first_day, first_of_both};
 use crate::end::end_of_walk;
 use crate::walk::first_difference;
 use rr_model::{Kind, NoMemory, Verdict, day_part};
+use rr_periodic::DaySeq;
 use rr_true::{Apart, Offsets};
-use rr_word::DaySeq;
 use std::alloc::Global;
 
 // Whether a series begins a day after a moment or later.

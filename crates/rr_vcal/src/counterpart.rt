@@ -102,15 +102,21 @@ fn month_days_of(
     }
 }
 
-// The weekdays of the items, with their places.
+// The weekdays of the items, with their places as ordinals.
 fn days_of(alloc: Global, items: &[Item]) -> Result<DayItems, NoMemory>
     ensures { IfOk result (λ days. days ≡ values_of day_item_lt day_of_item [] items.now) }
 {
     let mut days = DayItems::new(alloc);
     for item in items {
         match *item {
-            Item::Weekday(weekday) => days.put(DayItem { place: 0, weekday })?,
-            Item::Place { place, weekday } => days.put(DayItem { place, weekday })?,
+            Item::Weekday(weekday) => days.put(DayItem {
+                ordinal: 0,
+                weekday,
+            })?,
+            Item::Place { place, weekday } => days.put(DayItem {
+                ordinal: place,
+                weekday,
+            })?,
             Item::Every | Item::MonthDay(_) | Item::Month(_) | Item::YearDay(_) => {}
         }
     }

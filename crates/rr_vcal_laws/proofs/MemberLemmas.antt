@@ -184,9 +184,9 @@ weekday-present (YearDay k ∷ items) h some = absurd h.0
 -- two values of BYDAY of which neither is below the other are the same to every test
 pub day_item-same : (p : DayItem → Bool) (a b : DayItem) → day_item_lt a b ≡ false → day_item_lt b a ≡ false → p a ≡ p b
 day_item-same p a b h k =
-    let place : a.place ≡ b.place = grind (arith, ints, nat_tests, h, k) in
+    let ordinal : a.ordinal ≡ b.ordinal = grind (arith, ints, nat_tests, h, k) in
     let weekday : a.weekday ≡ b.weekday = grind (arith, ints, nat_tests, h, k) in
-    let same : a ≡ b = λ i. record { place = place i; weekday = weekday i } in
+    let same : a ≡ b = λ i. record { ordinal = ordinal i; weekday = weekday i } in
     ap p same
 
 -- the test of an item's weekday

@@ -168,7 +168,7 @@ or_true true = refl
 or_true false = refl
 
 abbrev is_placed : DayItem → Bool
-is_placed item = not (int_eq item.place (pos 0))
+is_placed item = not (int_eq item.ordinal (pos 0))
 
 none_placed : (items : List Item) → AreItemsOf family.W items → list_any (λ item. holds_of is_placed (day_of_item item)) items ≡ false
 none_placed [] h = refl

@@ -10,7 +10,7 @@ use Rattle.rr_model.specs.declared.rule.Rule.{Rule}
 use Rattle.rr_model.specs.declared.rule.Series.{Series}
 use Rattle.rr_wording.specs.Dates.{at_time, date_words, day_and_month, moment_words, month_name, seconds_words, time_words, weekday_name}
 use Rattle.rr_wording.specs.Days.{day_item_words, day_lead, day_tail, day_words, days_from_back, days_said, has_each, is_yearly, last_day_word}
-use Rattle.rr_wording.specs.Days.{lead_of_days, limits_days, places_end}
+use Rattle.rr_wording.specs.Days.{lead_of_days, limits_days, ordinals_end}
 use Rattle.rr_wording.specs.Lists.{joint}
 use Rattle.rr_wording.specs.Numbers.{counted, numbered, ordinal, ordinal_end, place, place_from_back, place_from_front, plural_end}
 use Rattle.rr_wording.specs.Parts.{from_back, last_word, lead_end, lead_words, part_words, tail_words, value_words, values_words}
@@ -52,11 +52,11 @@ hours = refl
 abbrev morning : List Rule → Series
 morning rules = record { kind = Moments; start = pos 1_704_792_600; start_counts = true; rules = rules; excluded = []; plus = []; minus = [] }
 
-second_tuesday : series_words (morning (record (plain_rule Monthly 1) { by_day = record { place = pos 2; weekday = 1 } ∷ [] } ∷ []))
+second_tuesday : series_words (morning (record (plain_rule Monthly 1) { by_day = record { ordinal = pos 2; weekday = 1 } ∷ [] } ∷ []))
     ≡ codes "every month on the second Tuesday at 09:30, from 9 January 2024"
 unfolding series_words is_nothing base_words with_rules rules_words only_words rule_words every_words unit_word days_words is_plain days_by_parts
     part_words month_day_part is_yearly
-    day_words lead_of_days day_lead limits_days has_each days_said days_from_back joint day_item_words last_day_word day_tail places_end place
+    day_words lead_of_days day_lead limits_days has_each days_said days_from_back joint day_item_words last_day_word day_tail ordinals_end place
     place_from_front weekday_name
     times_words says_time has_time_part at_time time_words seconds_words week_start_words weeks_from has_week_start is_weekly from_words date_words
     day_and_month month_name end_words
@@ -66,13 +66,13 @@ second_tuesday = refl
 
 every_second_week :
     series_words (morning (record (plain_rule Weekly 2) {
-      by_day = record { place = pos 0; weekday = 0 } ∷ record { place = pos 0; weekday = 2 } ∷ [];
+      by_day = record { ordinal = pos 0; weekday = 0 } ∷ record { ordinal = pos 0; weekday = 2 } ∷ [];
       end = Until Moments (pos 1_741_167_015);
     } ∷ []))
     ≡ codes "every 2 weeks on Monday and Wednesday at 09:30, weeks beginning on Monday, from 9 January 2024, until 5 March 2025 at 09:30:15"
 unfolding series_words is_nothing base_words with_rules rules_words only_words rule_words every_words unit_word counted plural_end days_words is_plain
     days_by_parts part_words month_day_part
-    is_yearly day_words lead_of_days day_lead limits_days has_each days_said days_from_back joint day_item_words last_day_word day_tail places_end
+    is_yearly day_words lead_of_days day_lead limits_days has_each days_said days_from_back joint day_item_words last_day_word day_tail ordinals_end
     weekday_name
     times_words says_time has_time_part at_time time_words seconds_words week_start_words weeks_from has_week_start is_weekly from_words date_words
     day_and_month month_name end_words
@@ -116,11 +116,11 @@ unfolding series_words is_nothing base_words with_rules rules_words only_words w
 excluding = refl
 
 -- Friday the 13th
-friday : days_words (record (plain_rule Yearly 1) { by_month_day = pos 13 ∷ []; by_day = record { place = pos 0; weekday = 4 } ∷ [] }) (pos 0)
+friday : days_words (record (plain_rule Yearly 1) { by_month_day = pos 13 ∷ []; by_day = record { ordinal = pos 0; weekday = 4 } ∷ [] }) (pos 0)
     ≡ codes " on the 13th day of every month (if that is a Friday)"
 unfolding days_words is_plain days_by_parts part_words month_day_part is_yearly lead_words lead_end values_words value_words numbered ordinal
     ordinal_end from_back last_word
-    joint tail_words day_words lead_of_days day_lead limits_days has_each days_said days_from_back day_item_words last_day_word day_tail places_end
+    joint tail_words day_words lead_of_days day_lead limits_days has_each days_said days_from_back day_item_words last_day_word day_tail ordinals_end
     weekday_name digits
 friday = refl
 

@@ -11,22 +11,22 @@ use Rattle.rr_wording.specs.Dates.{weekday_name}
 use Rattle.rr_wording.specs.Lists.{said_in_order}
 use Rattle.rr_wording.specs.Numbers.{place}
 
--- a value of BYDAY: a weekday, or one of them by its place
+-- a value of BYDAY: a weekday, or one of them by its ordinal
 unfoldable pub day_item_words : DayItem → List ℕ
 day_item_words item =
-    if int_eq item.place (pos 0) then weekday_name item.weekday else codes "the " ++ place item.place ++ codes " " ++ weekday_name item.weekday
+    if int_eq item.ordinal (pos 0) then weekday_name item.weekday else codes "the " ++ place item.ordinal ++ codes " " ++ weekday_name item.weekday
 
 -- how many values count from the back; of values that rise they are the first
 unfoldable pub days_from_back : List DayItem → ℕ
-days_from_back items = count_by (λ item. int_lt item.place (pos 0)) items
+days_from_back items = count_by (λ item. int_lt item.ordinal (pos 0)) items
 
 -- values of BYDAY
 unfoldable pub days_said : List ℕ → List DayItem → List ℕ
 days_said word items = said_in_order day_item_words word (days_from_back items) items
 
--- some value is a weekday without a place; such a value is then the first that is said
+-- some value is a weekday without an ordinal; such a value is then the first that is said
 unfoldable pub has_each : List DayItem → Bool
-has_each items = list_any (λ item. int_eq item.place (pos 0)) items
+has_each items = list_any (λ item. int_eq item.ordinal (pos 0)) items
 
 -- BYDAY limits the days that BYYEARDAY or BYMONTHDAY names
 unfoldable pub limits_days : Rule → Bool
@@ -51,14 +51,14 @@ unfoldable pub is_yearly : Freq → Bool
 is_yearly Yearly = true
 is_yearly freq = false
 
--- whether places count in the month or in the year, if the rule is one of years
-unfoldable pub places_end : Rule → List ℕ
-places_end rule =
+-- whether ordinals count in the month or in the year, if the rule is one of years
+unfoldable pub ordinals_end : Rule → List ℕ
+ordinals_end rule =
     if is_yearly rule.freq && has_ordinals rule.by_day then (if is_absent rule.by_month then codes " of the year" else codes " of the month") else []
 
 -- what stands behind the values
 unfoldable pub day_tail : Rule → List ℕ
-day_tail rule = places_end rule ++ (if limits_days rule then codes ")" else [])
+day_tail rule = ordinals_end rule ++ (if limits_days rule then codes ")" else [])
 
 -- BYDAY, unless it is absent
 unfoldable pub day_words : Rule → List ℕ

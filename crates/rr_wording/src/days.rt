@@ -1,7 +1,7 @@
 // BYDAY in English (RFC 5545, section 3.3.10).
 ghost use Rattle.std.specs.Prelude.{◌≡◌, ◌+◌, ◌^◌, ◌<◌, ◌≤◌, ◌++◌, length, OnOk};
 ghost use Rattle.rr_model.specs.Rule.Validity.{has_ordinals, takes_ordinals};
-ghost use Rattle.rr_wording.specs.Days.{day_item_words, day_lead, day_tail, day_words, days_from_back, days_said, has_each, is_yearly, last_day_word, lead_of_days, limits_days, places_end};
+ghost use Rattle.rr_wording.specs.Days.{day_item_words, day_lead, day_tail, day_words, days_from_back, days_said, has_each, is_yearly, last_day_word, lead_of_days, limits_days, ordinals_end};
 ghost use Rattle.rr_wording.specs.Lists.{listed};
 
 use crate::dates::weekday_name;
@@ -14,11 +14,11 @@ use rr_model::{DayItem, Freq, NoMemory, Rule};
 fn push_day_item(out: &mut Vec<u8>, item: DayItem) -> Result<(), NoMemory>
     ensures { OnOk result (out.new.items ≡ out.old.items ++ day_item_words item) }
 {
-    if item.place == 0 {
+    if item.ordinal == 0 {
         return push(out, weekday_name(item.weekday));
     }
     push(out, b"the ")?;
-    push_place(out, i16::from(item.place))?;
+    push_place(out, i16::from(item.ordinal))?;
     push(out, b" ")?;
     push(out, weekday_name(item.weekday))
 }
@@ -55,7 +55,7 @@ fn days_from_back(items: &[DayItem]) -> usize
     ensures value { result ≡ days_from_back items.now }
     ensures within { result ≤ length items.now }
 {
-    items.iter().filter(|item| item.place < 0).count()
+    items.iter().filter(|item| item.ordinal < 0).count()
 }
 
 // Appends the values: those that count from the back, the first of values that rise, are said last.
@@ -68,19 +68,19 @@ fn push_items(out: &mut Vec<u8>, word: &[u8], items: &[DayItem]) -> Result<(), N
     push_listed(out, word, back, 0)
 }
 
-// Whether some value is a weekday without a place.
+// Whether some value is a weekday without an ordinal.
 #[tactic(auto, unfolding(crate::specs::Days::has_each))]
 fn has_each(items: &[DayItem]) -> bool
     ensures { result ≡ has_each items.now }
 {
-    items.iter().any(|item| item.place == 0)
+    items.iter().any(|item| item.ordinal == 0)
 }
 
-// Whether some value has a place.
+// Whether some value has an ordinal.
 fn has_ordinals(items: &[DayItem]) -> bool
     ensures { result ≡ has_ordinals items.now }
 {
-    items.iter().any(|item| item.place != 0)
+    items.iter().any(|item| item.ordinal != 0)
 }
 
 // Whether BYDAY limits the days that BYYEARDAY or BYMONTHDAY names.
@@ -91,7 +91,7 @@ fn limits_days(rule: &Rule) -> bool
     !(rule.by_year_day.is_empty() && rule.by_month_day.is_empty())
 }
 
-// Whether values of BYDAY may have places: the rule is one of months, or of years without BYWEEKNO.
+// Whether values of BYDAY may have ordinals: the rule is one of months, or of years without BYWEEKNO.
 fn takes_ordinals(freq: Freq, no_weeks: bool) -> bool
     ensures { result ≡ takes_ordinals freq no_weeks }
 {
@@ -126,10 +126,10 @@ pub(crate) fn is_yearly(freq: Freq) -> bool
     matches!(freq, Freq::Yearly)
 }
 
-// Whether places count in the month or in the year, if the rule is one of years.
-#[tactic(auto, unfolding(crate::specs::Days::places_end))]
-fn places_end(rule: &Rule) -> &'static [u8]
-    ensures { result.now ≡ places_end rule.now }
+// Whether ordinals count in the month or in the year, if the rule is one of years.
+#[tactic(auto, unfolding(crate::specs::Days::ordinals_end))]
+fn ordinals_end(rule: &Rule) -> &'static [u8]
+    ensures { result.now ≡ ordinals_end rule.now }
 {
     if !(is_yearly(rule.freq) && has_ordinals(rule.by_day.as_slice())) {
         b""
@@ -145,7 +145,7 @@ fn places_end(rule: &Rule) -> &'static [u8]
 fn push_tail(out: &mut Vec<u8>, rule: &Rule) -> Result<(), NoMemory>
     ensures { OnOk result (out.new.items ≡ out.old.items ++ day_tail rule.now) }
 {
-    push(out, places_end(rule))?;
+    push(out, ordinals_end(rule))?;
     if limits_days(rule) {
         return push(out, b")");
     }

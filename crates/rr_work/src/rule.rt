@@ -24,7 +24,7 @@ fn is_weekly(freq: Freq) -> bool
 fn has_ordinals(items: &[DayItem]) -> bool
     ensures { result ≡ has_ordinals items.now }
 {
-    items.iter().any(|item| item.place != 0)
+    items.iter().any(|item| item.ordinal != 0)
 }
 
 // Whether BYDAY is absent, or names one weekday: of a week, or with its number of a month or a year.

@@ -21,14 +21,14 @@ use Rattle.rr_model.specs.declared.graph.Repeat.TheVariants as repeat
 
 -- ---- a pattern
 
--- the number of the period in which a day lies
-abbrev pub period_of : Form → ℕ → ℤ → ℤ
-period_of Daily first_day d = d
-period_of Weekly first_day d = week_index d first_day
-period_of AbsoluteMonthly first_day d = month_number d
-period_of RelativeMonthly first_day d = month_number d
-period_of AbsoluteYearly first_day d = year_of d
-period_of RelativeYearly first_day d = year_of d
+-- the number of the unit in which a day lies: of its day, week, month or year, by the type
+abbrev pub form_unit : Form → ℕ → ℤ → ℤ
+form_unit Daily first_day d = d
+form_unit Weekly first_day d = week_index d first_day
+form_unit AbsoluteMonthly first_day d = month_number d
+form_unit RelativeMonthly first_day d = month_number d
+form_unit AbsoluteYearly first_day d = year_of d
+form_unit RelativeYearly first_day d = year_of d
 
 -- the day's weekday is one of these days
 abbrev pub is_day_in : ℕ → ℤ → Bool
@@ -67,7 +67,7 @@ form_holds RelativeYearly pattern d = (month_of d == pattern.month) && is_indexe
 -- the pattern that begins on this day has the day d
 unfoldable pub is_pattern_day : Pattern → ℤ → ℤ → Bool
 is_pattern_day pattern start d =
-    divides pattern.interval (period_of pattern.form pattern.first_day d -ℤ period_of pattern.form pattern.first_day start) && form_holds pattern.form pattern d
+    divides pattern.interval (form_unit pattern.form pattern.first_day d -ℤ form_unit pattern.form pattern.first_day start) && form_holds pattern.form pattern d
 
 -- ---- a range
 

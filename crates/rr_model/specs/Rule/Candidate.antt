@@ -59,7 +59,7 @@ is_ordinal_of_day n in_year d =
 
 -- the day has the item's weekday, and the item's ordinal if it has one
 abbrev pub day_item_holds : Bool → ℤ → DayItem → Bool
-day_item_holds in_year d item = (item.weekday == weekday_of d) && (int_eq item.place (pos 0) || is_ordinal_of_day item.place in_year d)
+day_item_holds in_year d item = (item.weekday == weekday_of d) && (int_eq item.ordinal (pos 0) || is_ordinal_of_day item.ordinal in_year d)
 
 -- ---- each BY part of a filled rule, as a test of one day or moment: it is absent, or it is met
 

@@ -74,7 +74,7 @@ wants_month freq rule = false
 
 -- the weekday of a day, as a value of BYDAY
 abbrev pub day_item_of : ℤ → DayItem
-day_item_of d = record { place = pos 0; weekday = weekday_of d }
+day_item_of d = record { ordinal = pos 0; weekday = weekday_of d }
 
 -- the rule with its absent parts from the start
 abbrev pub filled_rule : Rule → Kind → ℤ → Rule

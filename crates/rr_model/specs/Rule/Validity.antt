@@ -25,7 +25,7 @@ CountUpTo most numbers = All (λ n. (1 ≤ nat_abs n) × (nat_abs n ≤ most)) n
 
 -- a weekday, and which of them from the front or from the back; 0 for each
 abbrev pub IsDayItem : DayItem → Type 0
-IsDayItem item = (nat_abs item.place ≤ 53) × (item.weekday < 7)
+IsDayItem item = (nat_abs item.ordinal ≤ 53) × (item.weekday < 7)
 
 -- a COUNT, from 1 up to the greatest number of 64 bits
 abbrev pub IsCount : ℕ → Type 0
@@ -81,7 +81,7 @@ takes_ordinals freq no_weeks = false
 
 -- some value of BYDAY has a number
 abbrev pub has_ordinals : List DayItem → Bool
-has_ordinals items = list_any (λ item. not (int_eq item.place (pos 0))) items
+has_ordinals items = list_any (λ item. not (int_eq item.ordinal (pos 0))) items
 
 -- a part is present that BYSETPOS may choose from
 abbrev pub has_part : Rule → Bool

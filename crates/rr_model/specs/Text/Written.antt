@@ -78,7 +78,7 @@ weekday_text d =
 
 -- a value of BYDAY as it is written
 abbrev pub day_item_text : DayItem → List ℕ
-day_item_text item = (if int_eq item.place (pos 0) then [] else signed_decimal item.place) ++ weekday_text item.weekday
+day_item_text item = (if int_eq item.ordinal (pos 0) then [] else signed_decimal item.ordinal) ++ weekday_text item.weekday
 
 -- a part with its name, after a semicolon
 abbrev pub part_text : List ℕ → List ℕ → List ℕ

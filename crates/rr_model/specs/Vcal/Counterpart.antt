@@ -27,7 +27,7 @@ family_freq family.YD = Yearly
 
 -- a value of BYDAY, of its ordinal and its weekday
 abbrev pub day_item : ℤ → ℕ → DayItem
-day_item place weekday = record { place = place; weekday = weekday }
+day_item ordinal weekday = record { ordinal = ordinal; weekday = weekday }
 
 -- what an item gives to BYDAY, BYMONTHDAY, BYMONTH and BYYEARDAY
 abbrev pub day_of_item : Item → Option DayItem

@@ -2,7 +2,7 @@ use Rattle.std.proofs.Common.{◌≡◌, ◌≢◌, ◌≤◌, pos, ◌+ℤ◌, 
 use Rattle.std.proofs.lemmas.Int.{ints}
 use Rattle.std.proofs.lemmas.Result.{IfOk-weaker}
 use Rattle.rr_model.proofs.MemberLemmas.{same_kind_is}
-use Rattle.rr_word.proofs.SketchLemmas.{set_on}
+use Rattle.rr_periodic.proofs.SketchLemmas.{set_on}
 use Rattle.rr_days.proofs.MadeSetLemmas.{both_ok}
 use Rattle.rr_days.specs.Sequence.{sketch}
 use Rattle.rr_num.proofs.DivisorLemmas.{lcm_above}

@@ -1,7 +1,7 @@
 use Rattle.std.proofs.Common.{◌≡◌, pos, ◌+ℤ◌, sym, subst, ◌∙◌, to_z-of_z, arith}
 use Rattle.std.proofs.lemmas.Int.{ints}
-use Rattle.rr_days.specs.Sketched.{IsWholeFold, sketch_of}
-use Rattle.rr_days.specs.declared.folded.Folded.{Folded}
+use Rattle.rr_days.specs.Sketched.{IsWholeDayTable, sketch_of}
+use Rattle.rr_days.specs.declared.day_table.DayTable.{DayTable}
 use Rattle.rr_algebra.specs.Combining.{AreDayNumbers, HasDaysOf, HasTooManyMade}
 use Rattle.rr_algebra.specs.declared.combining.CombinedDays.{CombinedDays}
 use Rattle.rr_algebra.proofs.JudgedLemmas.{refused_exactly}
@@ -10,10 +10,10 @@ use Rattle.rr_algebra.proofs.combining.combined_days.Given.{Over}
 use Rattle.rr_algebra.proofs.combining.combined_days.Goals.{In-Ok}
 use Rattle.rr_algebra.proofs.combining.combined_days.Goals as goal
 
--- ---- the fold that is made
+-- ---- the day table that is made
 
 record Made (g : Over) (c : In-Ok g) : Type 0 where
-  whole : IsWholeFold c.args.kind c.in-Ok.days.shapes c.in-Ok.days.numbers.items c.args.begin c.args.settled c.args.period
+  whole : IsWholeDayTable c.args.kind c.in-Ok.days.shapes c.in-Ok.days.numbers.items c.args.begin c.args.settled c.args.period
   days : HasDaysOf c.args.op (g.A.DaySeq.sketch c.args.one.now) (g.B.DaySeq.sketch c.args.other.now)
       (sketch_of c.args.kind c.in-Ok.days.shapes c.in-Ok.days.numbers.items c.args.begin c.args.settled c.args.period)
   few : HasTooManyMade c.args.op (g.A.DaySeq.sketch c.args.one.now) (g.B.DaySeq.sketch c.args.other.now) → ⊥
@@ -47,16 +47,16 @@ pub sequence_of_numbers-requires-clause-whole : goal.sequence_of_numbers-require
 sequence_of_numbers-requires-clause-whole g c =
     rw (to_z-of_z c.ranges.begin, to_z-of_z c.ranges.settled) (made g c).whole
 
-pub returns-in_ok-folded-in-Ok-clause-days : goal.returns-in_ok-folded-in-Ok-clause-days
-returns-in_ok-folded-in-Ok-clause-days g c =
+pub returns-in_ok-day_table-in-Ok-clause-days : goal.returns-in_ok-day_table-in-Ok-clause-days
+returns-in_ok-day_table-in-Ok-clause-days g c =
     let b = to_z-of_z c.ranges.begin in
     let q = to_z-of_z c.ranges.settled in
-    subst (HasDaysOf c.args.op (g.A.DaySeq.sketch c.args.one.now) (g.B.DaySeq.sketch c.args.other.now)) (sym (c.in_ok-folded-in-Ok.ensures
+    subst (HasDaysOf c.args.op (g.A.DaySeq.sketch c.args.one.now) (g.B.DaySeq.sketch c.args.other.now)) (sym (c.in_ok-day_table-in-Ok.ensures
     ∙ (λ i. sketch_of c.args.kind c.in-Ok.days.shapes c.in-Ok.days.numbers.items (b i) (q i) c.args.period)))
-    (made g (goal.at.returns-in_ok-folded-in-Ok-clause-days g c).In-Ok).days
+    (made g (goal.at.returns-in_ok-day_table-in-Ok-clause-days g c).In-Ok).days
 
 pub returns-in-Err-clause-refused : goal.returns-in-Err-clause-refused
-returns-in-Err-clause-refused g c = refused_exactly CombinedDays Folded c.in-Err.fault _ c.in-Err.ensures.refused
+returns-in-Err-clause-refused g c = refused_exactly CombinedDays DayTable c.in-Err.fault _ c.in-Err.ensures.refused
 
-pub returns-in_ok-folded-in-Ok-clause-refused : goal.returns-in_ok-folded-in-Ok-clause-refused
-returns-in_ok-folded-in-Ok-clause-refused g c = (made g (goal.at.returns-in_ok-folded-in-Ok-clause-refused g c).In-Ok).few
+pub returns-in_ok-day_table-in-Ok-clause-refused : goal.returns-in_ok-day_table-in-Ok-clause-refused
+returns-in_ok-day_table-in-Ok-clause-refused g c = (made g (goal.at.returns-in_ok-day_table-in-Ok-clause-refused g c).In-Ok).few

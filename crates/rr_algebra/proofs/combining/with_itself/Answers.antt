@@ -1,6 +1,6 @@
 use Rattle.std.proofs.Common.{arith, sym, ◌∙◌, subst}
 use Rattle.std.proofs.lemmas.Int.{ints}
-use Rattle.rr_word.proofs.SketchLemmas.{set_on}
+use Rattle.rr_periodic.proofs.SketchLemmas.{set_on}
 use Rattle.rr_days.proofs.MadeSetLemmas.{both_ok}
 use Rattle.rr_days.specs.Sequence.{sketch}
 use Rattle.rr_algebra.specs.Combining.{IsDaySet}

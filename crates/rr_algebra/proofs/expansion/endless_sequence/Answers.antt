@@ -4,7 +4,7 @@ use Rattle.std.proofs.lemmas.Int.{ints}
 use Rattle.rr_model.proofs.YearLemmas.{from_year_one}
 use Rattle.rr_model.specs.Sets.Descriptor.{Ending}
 use Rattle.rr_model.specs.Sets.Reading.{steps_of_runs}
-use Rattle.rr_days.specs.Sketched.{IsWholeFold, sketch_of}
+use Rattle.rr_days.specs.Sketched.{IsWholeDayTable, sketch_of}
 use Rattle.rr_algebra.specs.Dense.{AreSteps, dense}
 use Rattle.rr_algebra.specs.Expanded.{AreEndless, IsEndlessExpanded, padded_to}
 use Rattle.rr_algebra.specs.Found.{IsReadDay, run_in}
@@ -41,11 +41,11 @@ returns-in-Err-clause-refused c =
       subst (λ l. AreSteps e.period (c.args.count - 1) 0 0 (steps_of_runs (map run_in l))) (sym c.as_slice.ensures.value) h.cycle_steps,
     )) c.in-Err.ensures
 
--- ---- the fold that is made, and that it is the one stated
+-- ---- the day table that is made, and that it is the one stated
 
 record Made (c : In-Ok) : Type 0 where
   settled : to_z w64 (of_z w64 c.args.ending.now.settled) ≡ c.args.ending.now.settled
-  whole : IsWholeFold c.args.kind c.args.shapes c.in-Ok.numbers.items c.args.first c.args.ending.now.settled c.args.ending.now.period
+  whole : IsWholeDayTable c.args.kind c.args.shapes c.in-Ok.numbers.items c.args.first c.args.ending.now.settled c.args.ending.now.period
   expanded : IsEndlessExpanded c.args.kind c.args.count c.args.shapes c.args.first c.args.before.now (ending_in c.args.ending.now)
       (sketch_of c.args.kind c.args.shapes c.in-Ok.numbers.items c.args.first c.args.ending.now.settled c.args.ending.now.period)
 
@@ -89,7 +89,7 @@ pub returns-clause-expanded : goal.returns-clause-expanded
 returns-clause-expanded c =
     let m = made (goal.at.returns-clause-expanded c).In-Ok in
     record {
-      same = c.in_ok-folded.ensures
+      same = c.in_ok-day_table.ensures
           ∙ (λ i. sketch_of c.args.kind c.args.shapes c.in-Ok.numbers.items (to_z-of_z c.ranges.first i) (m.settled i) c.args.ending.now.period)
           ∙ m.expanded.same;
       steps = m.expanded.steps;

@@ -75,7 +75,7 @@ pub returns-clause-expanded : goal.returns-clause-expanded
 returns-clause-expanded c =
     let f = filled (goal.at.returns-clause-expanded c).After-day_after in
     record {
-      same = c.in_ok-folded.ensures
+      same = c.in_ok-day_table.ensures
           ∙ (λ i. sketch_of c.args.kind c.args.shapes c.fill_up.new.numbers.items (to_z-of_z c.ranges.first i) (f.settled i) 1)
           ∙ finite_sketch c.args.kind c.args.count c.args.shapes c.requires.sets c.args.first c.requires.first (map run_in c.args.before.now) f.steps
           c.fill_up.new.numbers.items 1 (omega arith) f.numbers refl;

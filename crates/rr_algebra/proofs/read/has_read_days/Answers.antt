@@ -4,7 +4,7 @@ use Rattle.std.proofs.lemmas.Bool.{false≢true}
 use Rattle.std.proofs.lemmas.Int.{ints}
 use Rattle.rr_model.specs.Sets.Sketch.{IsFirstDay}
 use Rattle.rr_model.specs.declared.sketch.Sketch.{Sketch}
-use Rattle.rr_word.proofs.OneLeastLemmas.{one_first}
+use Rattle.rr_periodic.proofs.OneLeastLemmas.{one_first}
 use Rattle.rr_algebra.specs.Found.{IsReadDay}
 use Rattle.rr_algebra.proofs.read.has_read_days.Goals as goal
 

@@ -1,7 +1,7 @@
 use Rattle.std.proofs.Common.{refl, sym, ◌∙◌}
 use Rattle.std.proofs.lemmas.Bool.{false≢true}
 use Rattle.std.proofs.lemmas.Result.{IfOk-weaker}
-use Rattle.rr_word.specs.Bounded.{IsDaySequence-bounded}
+use Rattle.rr_periodic.specs.Bounded.{IsDaySequence-bounded}
 use Rattle.rr_canon.specs.Least.{least_sketch}
 use Rattle.rr_days.specs.Sequence.{sketch}
 use Rattle.rr_algebra.specs.Stated.{version_read}

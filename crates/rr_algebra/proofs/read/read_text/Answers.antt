@@ -2,7 +2,7 @@ use Rattle.std.proofs.Common.{◌≡◌, ◌⊎◌, [], ◌∷◌, refl, subst}
 use Rattle.std.specs.Prelude.{codes}
 use Rattle.rr_model.specs.Sets.DescriptorText.{text_of_lines}
 use Rattle.rr_days.specs.Sequence.{sketch}
-use Rattle.rr_days.specs.declared.folded.Folded.{Folded}
+use Rattle.rr_days.specs.declared.day_table.DayTable.{DayTable}
 use Rattle.rr_algebra.specs.Items.{IsFaultWhereNot}
 use Rattle.rr_algebra.specs.Stated.{AreStated, IsStated}
 use Rattle.rr_algebra.proofs.ReadableLemmas.{fault_refused}
@@ -10,7 +10,7 @@ use Rattle.rr_algebra.proofs.read.read_text.Goals as goal
 
 pub returns-in-Err-clause-refused : goal.returns-in-Err-clause-refused
 returns-in-Err-clause-refused c =
-    fault_refused Folded c.args.text.now c.in-Err.fault
+    fault_refused DayTable c.args.text.now c.in-Err.fault
     (subst (λ t. IsFaultWhereNot ((t ≡ text_of_lines (codes "none" ∷ [])) ⊎ AreStated t) c.in-Err.fault) c.after_bytes.ensures c.in-Err.ensures.refused)
 
 pub is_descriptor-requires : goal.is_descriptor-requires

@@ -14,7 +14,7 @@ outcome_of_clash-requires c =
 pub returns-then-not-together : goal.returns-then-not-together
 returns-then-not-together c =
     IfOk-weaker c.outcome_of_refusal.result _ _
-    (λ x e s u fold fold'. clash_too_late s u _ _ fold fold' c.args.duration_a c.args.duration_b (answer_of x)
+    (λ x e s u table table'. clash_too_late s u _ _ table table' c.args.duration_a c.args.duration_b (answer_of x)
     (λ few. false≢true (sym c.if-not-together.true ∙ c.repeat_together-together.ensures.1 few)) e)
     c.outcome_of_refusal.ensures
 
@@ -22,7 +22,7 @@ pub returns : goal.returns
 returns c =
     let few = c.repeat_together-together.ensures.0 c.if-not-together.false in
     IfOk-weaker c.outcome_of_clash.result _ _
-    (λ x e s u fold fold'. clash_of_both s u _ _ fold fold' c.args.duration_a c.args.duration_b (answer_of x) few
-    (clash_is_said s u _ _ fold fold' c.args.duration_a c.args.duration_b c.kind-kind_a.result c.kind-kind_b.result
+    (λ x e s u table table'. clash_of_both s u _ _ table table' c.args.duration_a c.args.duration_b (answer_of x) few
+    (clash_is_said s u _ _ table table' c.args.duration_a c.args.duration_b c.kind-kind_a.result c.kind-kind_b.result
     c.clear-clash.result (answer_of x) c.kind-kind_a.ensures c.kind-kind_b.ensures (rw (c.get.ensures.value, c.get-2.ensures.value) at c.clear-clash.ensures.verdict) e))
     c.outcome_of_clash.ensures

@@ -14,6 +14,6 @@ outcome_of_differences-requires c =
 pub returns : goal.returns
 returns c =
     IfOk-weaker c.outcome_of_differences.result _ _
-    (λ x e s u fold fold'. differences_said s u _ _ fold fold' c.args.count c.in_ok-differences.differences.items (answer_of x)
+    (λ x e s u table table'. differences_said s u _ _ table table' c.args.count c.in_ok-differences.differences.items (answer_of x)
     (rw c.get.ensures.value at c.in_ok-differences.ensures.first) (rw c.as_slice.ensures.value at e))
     c.outcome_of_differences.ensures

@@ -1,7 +1,7 @@
 use Rattle.std.proofs.Common.{◌≤◌, refl, arith}
 use Rattle.std.proofs.lemmas.Result.{IfOk-weaker}
 use Rattle.std.specs.Prelude.{Ok}
-use Rattle.rr_fold.specs.Judged.{all_limits}
+use Rattle.rr_tabulate.specs.Judged.{all_limits}
 use Rattle.rr_model.specs.Series.Cycle.{series_cycle}
 use Rattle.rr_model.specs.declared.limits.TheConstants.{MAX_CYCLE_DAYS}
 use Rattle.rr_model.specs.declared.question.Question.TheVariants.{Equal}
@@ -25,8 +25,8 @@ returns-in-Err c =
     (answer_of x) (c.in-Err.ensures.refused all_limits refl) e)
     c.outcome_of_fault.ensures
 
-pub equal_folded-requires-clause-valid_b : goal.equal_folded-requires-clause-valid_b
-equal_folded-requires-clause-valid_b c = c.in-Ok.ensures.accepted.valid
+pub equal_tabulated-requires-clause-valid_b : goal.equal_tabulated-requires-clause-valid_b
+equal_tabulated-requires-clause-valid_b c = c.in-Ok.ensures.accepted.valid
 
 pub outcome_of_verdict-requires : goal.outcome_of_verdict-requires
 outcome_of_verdict-requires c =
@@ -47,19 +47,19 @@ returns-in-Some c =
     })
     c.outcome_of_verdict.ensures
 
-pub returns-in-Ok-equal_folded : goal.returns-in-Ok-equal_folded
-returns-in-Ok-equal_folded c = record {
+pub returns-in-Ok-equal_tabulated : goal.returns-in-Ok-equal_tabulated
+returns-in-Ok-equal_tabulated c = record {
   judged = Ok (of_series c.in-Ok.admitted.series);
   is_judged = passed all_limits (IsSeriesRead (series_operand_in c.args.b) c.args.text_b.now) c.in-Ok.admitted.series c.in-Ok.admitted.cycle
-      c.in-Ok.ensures.accepted c.in-Ok-equal_folded.ensures.judged;
-  is_said = c.in-Ok-equal_folded.ensures.said;
+      c.in-Ok.ensures.accepted c.in-Ok-equal_tabulated.ensures.judged;
+  is_said = c.in-Ok-equal_tabulated.ensures.said;
 }
 
 pub returns : goal.returns
 returns c =
-    IfOk-weaker c.outcome_of_fault-in-Err-equal_folded.result _ _
+    IfOk-weaker c.outcome_of_fault-in-Err-equal_tabulated.result _ _
     (λ x e. fault_said B all_limits (IsSeriesRead (series_operand_in c.args.b) c.args.text_b.now) (IsSaidOfBoth (Ask Equal) (of_series c.args.a.now))
-    c.in-Err-equal_folded.fault (answer_of x)
+    c.in-Err-equal_tabulated.fault (answer_of x)
     (judged_fault Outcome (IsSeriesRead (series_operand_in c.args.b) c.args.text_b.now) c.in-Ok.admitted.series c.in-Ok.admitted.cycle c.in-Ok.ensures.accepted
-    c.in-Err-equal_folded.fault c.in-Err-equal_folded.ensures.judged) e)
-    c.outcome_of_fault-in-Err-equal_folded.ensures
+    c.in-Err-equal_tabulated.fault c.in-Err-equal_tabulated.ensures.judged) e)
+    c.outcome_of_fault-in-Err-equal_tabulated.ensures

@@ -2,8 +2,8 @@ use Rattle.std.proofs.Common.{◌≤◌, refl, sym, subst, arith}
 use Rattle.std.proofs.lemmas.Result.{IfOk-weaker}
 use Rattle.std.specs.Prelude.{Ok}
 use Rattle.rr_days.specs.Sequence.{sketch}
-use Rattle.rr_days.specs.declared.folded.Folded.{Folded}
-use Rattle.rr_fold.specs.Judged.{all_limits}
+use Rattle.rr_days.specs.declared.day_table.DayTable.{DayTable}
+use Rattle.rr_tabulate.specs.Judged.{all_limits}
 use Rattle.rr_model.specs.Series.Cycle.{series_cycle}
 use Rattle.rr_model.specs.declared.limits.TheConstants.{MAX_CYCLE_DAYS}
 use Rattle.rr_model.specs.declared.question.Question.TheVariants.{Equal}
@@ -17,10 +17,10 @@ use Rattle.rr_answer.specs.Parsed.{operand_in, series_operand_in}
 use Rattle.rr_answer.specs.Subjects.{of_series}
 use Rattle.rr_answer.specs.Verdicts.{IsSaidOfBoth}
 use Rattle.rr_answer.specs.declared.command.Inquiry.TheVariants.{Verdict as Ask}
-use Rattle.rr_answer.proofs.EqualityLemmas.{fold_of, judged_fault, within_limits}
+use Rattle.rr_answer.proofs.EqualityLemmas.{day_table_of, judged_fault, within_limits}
 use Rattle.rr_answer.proofs.JudgementLemmas.{fault_said, passed}
 use Rattle.rr_answer.proofs.OneTextLemmas.{said_of_one_text}
-use Rattle.rr_answer.proofs.SaidOfBothLemmas.{fold_from_year_one}
+use Rattle.rr_answer.proofs.SaidOfBothLemmas.{table_from_year_one}
 use Rattle.rr_answer.proofs.equality.equal_outcome.Goals as goal
 
 pub returns-in-Err : goal.returns-in-Err
@@ -50,13 +50,13 @@ returns-then-goes_by_kinds c =
     })
     c.equal_beside.ensures
 
-pub returns-in-Err-fold : goal.returns-in-Err-fold
-returns-in-Err-fold c =
-    IfOk-weaker c.outcome_of_fault-in-Err-fold.result _ _
-    (λ x e. fault_said A all_limits (IsSeriesRead (series_operand_in c.args.a) c.args.text_a.now) _ c.in-Err-fold.fault (answer_of x)
-    (judged_fault Folded (IsSeriesRead (series_operand_in c.args.a) c.args.text_a.now) c.in-Ok.admitted.series c.in-Ok.admitted.cycle c.in-Ok.ensures.accepted
-    c.in-Err-fold.fault c.in-Err-fold.ensures.judged) e)
-    c.outcome_of_fault-in-Err-fold.ensures
+pub returns-in-Err-tabulate : goal.returns-in-Err-tabulate
+returns-in-Err-tabulate c =
+    IfOk-weaker c.outcome_of_fault-in-Err-tabulate.result _ _
+    (λ x e. fault_said A all_limits (IsSeriesRead (series_operand_in c.args.a) c.args.text_a.now) _ c.in-Err-tabulate.fault (answer_of x)
+    (judged_fault DayTable (IsSeriesRead (series_operand_in c.args.a) c.args.text_a.now) c.in-Ok.admitted.series c.in-Ok.admitted.cycle c.in-Ok.ensures.accepted
+    c.in-Err-tabulate.fault c.in-Err-tabulate.ensures.judged) e)
+    c.outcome_of_fault-in-Err-tabulate.ensures
 
 pub returns-then-is_one_text : goal.returns-then-is_one_text
 returns-then-is_one_text c =
@@ -71,37 +71,38 @@ returns-then-is_one_text c =
     (λ x e. subst (IsPairAnswer (Ask Equal) (IsSeriesRead a c.args.text_a.now) (IsSeriesRead b c.args.text_b.now)) (sym e)
     (said_of_one_text (as_operand a) (as_operand b) c.args.text_a.now c.args.text_b.now one (of_series c.in-Ok.admitted.series)
     (passed all_limits (IsSeriesRead a c.args.text_a.now) c.in-Ok.admitted.series c.in-Ok.admitted.cycle c.in-Ok.ensures.accepted
-    c.in-Ok-fold.ensures.judged)))
+    c.in-Ok-tabulate.ensures.judged)))
     c.outcome_of_verdict.ensures
 
-pub returns-in-Err-fold_series : goal.returns-in-Err-fold_series
-returns-in-Err-fold_series c =
-    IfOk-weaker c.outcome_of_fault-in-Err-fold_series.result _ _
+pub returns-in-Err-tabulate_series : goal.returns-in-Err-tabulate_series
+returns-in-Err-tabulate_series c =
+    IfOk-weaker c.outcome_of_fault-in-Err-tabulate_series.result _ _
     (λ x e. record {
       judged = Ok (of_series c.in-Ok.admitted.series);
       is_judged = passed all_limits (IsSeriesRead (series_operand_in c.args.a) c.args.text_a.now) c.in-Ok.admitted.series c.in-Ok.admitted.cycle
-          c.in-Ok.ensures.accepted c.in-Ok-fold.ensures.judged;
+          c.in-Ok.ensures.accepted c.in-Ok-tabulate.ensures.judged;
       is_said = fault_said B all_limits (IsSeriesRead (series_operand_in c.args.b) c.args.text_b.now) (IsSaidOfBoth (Ask Equal) (of_series c.in-Ok.admitted.series))
-          c.in-Err-fold_series.fault (answer_of x) c.in-Err-fold_series.ensures.refused e;
+          c.in-Err-tabulate_series.fault (answer_of x) c.in-Err-tabulate_series.ensures.refused e;
     })
-    c.outcome_of_fault-in-Err-fold_series.ensures
+    c.outcome_of_fault-in-Err-tabulate_series.ensures
 
 pub verdict_outcome-requires-clause-a : goal.verdict_outcome-requires-clause-a
 verdict_outcome-requires-clause-a c =
-    let e = c.in-Ok-fold.ensures in
+    let e = c.in-Ok-tabulate.ensures in
     let a : Series = c.in-Ok.admitted.series in
-    fold_from_year_one (of_series a) (sketch c.in-Ok-fold.days) (fold_of a (sketch c.in-Ok-fold.days) c.in-Ok.ensures.accepted.valid e.stands e.kind e.near e.period)
+    table_from_year_one (of_series a) (sketch c.in-Ok-tabulate.days)
+    (day_table_of a (sketch c.in-Ok-tabulate.days) c.in-Ok.ensures.accepted.valid e.stands e.kind e.near e.period)
 
 pub verdict_outcome-requires-clause-b : goal.verdict_outcome-requires-clause-b
 verdict_outcome-requires-clause-b c =
-    let of_b = c.in-Ok-fold_series.ensures.accepted in
-    fold_from_year_one of_b.subject (sketch c.in-Ok-fold_series.days_b) of_b.fold
+    let of_b = c.in-Ok-tabulate_series.ensures.accepted in
+    table_from_year_one of_b.subject (sketch c.in-Ok-tabulate_series.days_b) of_b.table
 
 pub returns : goal.returns
 returns c =
-    let e = c.in-Ok-fold.ensures in
+    let e = c.in-Ok-tabulate.ensures in
     let a : Series = c.in-Ok.admitted.series in
-    let of_b = c.in-Ok-fold_series.ensures.accepted in
+    let of_b = c.in-Ok-tabulate_series.ensures.accepted in
     IfOk-weaker c.verdict_outcome.result _ _
     (λ x said. record {
       judged = Ok (of_series a);
@@ -109,7 +110,8 @@ returns c =
       is_said = record {
         judged = Ok of_b.subject;
         is_judged = of_b.judged;
-        is_said = said (of_series a) of_b.subject (fold_of a (sketch c.in-Ok-fold.days) c.in-Ok.ensures.accepted.valid e.stands e.kind e.near e.period) of_b.fold;
+        is_said = said (of_series a) of_b.subject (day_table_of a
+            (sketch c.in-Ok-tabulate.days) c.in-Ok.ensures.accepted.valid e.stands e.kind e.near e.period) of_b.table;
       };
     })
     c.verdict_outcome.ensures

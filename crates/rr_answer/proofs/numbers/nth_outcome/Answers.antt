@@ -1,13 +1,13 @@
 use Rattle.std.proofs.lemmas.Result.{IfOk-weaker}
 use Rattle.rr_answer.specs.Outcome.{answer_of}
 use Rattle.rr_answer.proofs.NumberLemmas.{nth_is_said, printable_nth}
-use Rattle.rr_answer.proofs.SaidOfBothLemmas.{fold_from_year_one}
+use Rattle.rr_answer.proofs.SaidOfBothLemmas.{table_from_year_one}
 use Rattle.rr_answer.proofs.numbers.nth_outcome.Goals as goal
 
 pub outcome_of_nth-requires : goal.outcome_of_nth-requires
 outcome_of_nth-requires c =
     printable_nth _ c.args.n c.in_ok-nth_of-in-Ok.field-0
-    (fold_from_year_one c.in-Ok.ensures.accepted.subject _ c.in-Ok.ensures.accepted.fold) c.in_ok-nth_of-in-Ok.ensures
+    (table_from_year_one c.in-Ok.ensures.accepted.subject _ c.in-Ok.ensures.accepted.table) c.in_ok-nth_of-in-Ok.ensures
 
 pub returns-in_ok-nth_of-in-Ok : goal.returns-in_ok-nth_of-in-Ok
 returns-in_ok-nth_of-in-Ok c =

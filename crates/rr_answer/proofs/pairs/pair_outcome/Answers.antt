@@ -9,18 +9,18 @@ use Rattle.rr_answer.specs.Parsed.{operand_in, series_operand_in}
 use Rattle.rr_answer.specs.Said.{answer_of_verdict}
 use Rattle.rr_answer.proofs.EqualityLemmas.{said_of_operands}
 use Rattle.rr_answer.proofs.OneTextLemmas.{said_of_one_text}
-use Rattle.rr_answer.proofs.SaidOfBothLemmas.{fold_from_year_one}
-use Rattle.rr_answer.proofs.ShortLemmas.{folded_is_short}
+use Rattle.rr_answer.proofs.SaidOfBothLemmas.{table_from_year_one}
+use Rattle.rr_answer.proofs.ShortLemmas.{table_is_short}
 use Rattle.rr_answer.proofs.pairs.pair_outcome.Goals as goal
 
 pub outcome_beside-requires-clause-years : goal.outcome_beside-requires-clause-years
-outcome_beside-requires-clause-years c = fold_from_year_one c.in-Ok.ensures.accepted.subject _ c.in-Ok.ensures.accepted.fold
+outcome_beside-requires-clause-years c = table_from_year_one c.in-Ok.ensures.accepted.subject _ c.in-Ok.ensures.accepted.table
 
 pub outcome_beside-requires-clause-short : goal.outcome_beside-requires-clause-short
-outcome_beside-requires-clause-short c = folded_is_short (operand_in c.args.a) c.args.text_a.now _ c.in-Ok.ensures.accepted
+outcome_beside-requires-clause-short c = table_is_short (operand_in c.args.a) c.args.text_a.now _ c.in-Ok.ensures.accepted
 
 pub outcome_beside-requires-clause-near : goal.outcome_beside-requires-clause-near
-outcome_beside-requires-clause-near c = c.in-Ok.ensures.accepted.fold.near
+outcome_beside-requires-clause-near c = c.in-Ok.ensures.accepted.table.near
 
 pub returns-in-Some : goal.returns-in-Some
 returns-in-Some c =
@@ -48,5 +48,5 @@ pub returns : goal.returns
 returns c =
     let of_a = c.in-Ok.ensures.accepted in
     IfOk-weaker c.outcome_beside.result _ _
-    (λ x e. record { judged = Ok of_a.subject; is_judged = of_a.judged; is_said = e of_a.subject of_a.fold })
+    (λ x e. record { judged = Ok of_a.subject; is_judged = of_a.judged; is_said = e of_a.subject of_a.table })
     c.outcome_beside.ensures

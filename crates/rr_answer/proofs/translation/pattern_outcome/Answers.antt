@@ -1,5 +1,5 @@
 use Rattle.std.proofs.lemmas.Result.{IfOk-weaker}
-use Rattle.rr_fold.specs.Judged.{all_limits}
+use Rattle.rr_tabulate.specs.Judged.{all_limits}
 use Rattle.rr_model.specs.declared.verdict.Side.TheVariants.{A}
 use Rattle.rr_answer.specs.Answer.{IsPatternSaid}
 use Rattle.rr_answer.specs.OperandReading.{IsSubjectRead}

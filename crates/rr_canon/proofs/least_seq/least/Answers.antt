@@ -3,7 +3,7 @@ use Rattle.std.specs.Prelude.{Some}
 use Rattle.std.proofs.lemmas.Int.{ints}
 use Rattle.rr_model.specs.Sets.Least.{IsLeastStart}
 use Rattle.rr_model.specs.Sets.Sketch.{IsNearDay, times_on}
-use Rattle.rr_word.proofs.OccupiedLemmas.{start_near}
+use Rattle.rr_periodic.proofs.OccupiedLemmas.{start_near}
 use Rattle.rr_canon.specs.Kept.{AreStretchOf}
 use Rattle.rr_canon.proofs.KeptLemmas.{IsKeptLeast, kept_least_as}
 use Rattle.rr_canon.proofs.NumberedStretchLemmas.{sets_within}

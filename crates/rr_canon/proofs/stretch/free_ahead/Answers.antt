@@ -1,6 +1,6 @@
 use Rattle.std.proofs.Common.{arith}
 use Rattle.std.proofs.lemmas.Int.{ints}
-use Rattle.rr_word.specs.Stretches.{AreFree}
+use Rattle.rr_periodic.specs.Stretches.{AreFree}
 use Rattle.rr_canon.proofs.NumberedStretchLemmas.{both_free}
 use Rattle.rr_canon.proofs.OwnNumberLemmas.{free_by_number}
 use Rattle.rr_canon.proofs.stretch.free_ahead.Goals as goal

@@ -3,7 +3,7 @@ use Rattle.std.proofs.lemmas.Int.{ints}
 use Rattle.std.proofs.lemmas.Result.{on_ok_weaker}
 use Rattle.rr_model.specs.Sets.Descriptor.{runs_of}
 use Rattle.rr_model.specs.Sets.DescriptorText.{fields, text_of_lines}
-use Rattle.rr_word.specs.declared.numbered.NumberedDay.{NumberedDay}
+use Rattle.rr_periodic.specs.declared.numbered.NumberedDay.{NumberedDay}
 use Rattle.rr_canon.specs.Said.{steps_by_number, text_of_runs}
 use Rattle.rr_canon.proofs.AppendLemmas.{appended_as, nothing_appended, two_appended}
 use Rattle.rr_canon.proofs.DescribeLemmas.{no_ending, nil_from_test, some_from_test, some_ending}

@@ -5,7 +5,7 @@ use Rattle.std.proofs.lemmas.List.{drop_all}
 use Rattle.std.proofs.lemmas.Result.{on_ok_weaker}
 use Rattle.rr_model.specs.Sets.Descriptor.{Run, runs_of}
 use Rattle.rr_model.specs.Sets.DescriptorText.{run_line, text_of_lines}
-use Rattle.rr_word.specs.declared.numbered.NumberedDay.{NumberedDay}
+use Rattle.rr_periodic.specs.declared.numbered.NumberedDay.{NumberedDay}
 use Rattle.rr_canon.specs.Said.{steps_by_number, text_of_runs, with_run}
 use Rattle.rr_canon.proofs.AppendLemmas.{appended_as, two_appended}
 use Rattle.rr_canon.proofs.DescribeLemmas.{next_after, next_of_drop, one_more_run, runs_ended}

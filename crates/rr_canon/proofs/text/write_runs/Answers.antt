@@ -2,7 +2,7 @@ use Rattle.std.proofs.Common.{w32, w64, to_z, of_z, pos, [], get_or, ap, refl, �
 use Rattle.std.specs.Prelude.{FitsSigned, nat_abs, ◌-ℤ◌}
 use Rattle.std.proofs.lemmas.Int.{to_z-of_z}
 use Rattle.std.proofs.lemmas.Result.{on_ok_weaker}
-use Rattle.rr_word.specs.declared.numbered.NumberedDay.{NumberedDay}
+use Rattle.rr_periodic.specs.declared.numbered.NumberedDay.{NumberedDay}
 use Rattle.rr_canon.proofs.AppendLemmas.{appended_as, nothing_appended}
 use Rattle.rr_canon.proofs.DescribeLemmas.{no_runs, nil_from_test, some_from_test, whole_of_first, runs_of_first}
 use Rattle.rr_canon.proofs.text.write_runs.Goals as goal

@@ -1,4 +1,4 @@
-use Rattle.rr_word.proofs.SameLemmas.{seconds_of_day}
+use Rattle.rr_periodic.proofs.SameLemmas.{seconds_of_day}
 use Rattle.rr_decide.proofs.WindowLemmas.{rising_list}
 use Rattle.rr_decide.proofs.days.shown_on_day.Goals as goal
 

@@ -3,7 +3,7 @@ use Rattle.std.proofs.lemmas.Int.{ints}
 use Rattle.std.specs.Prelude.{nat_lt}
 use Rattle.rr_model.specs.Moment.{day_part, moment_at, second_part}
 use Rattle.rr_model.specs.Rising.{Rises}
-use Rattle.rr_word.proofs.SketchLemmas.{rising_on}
+use Rattle.rr_periodic.proofs.SketchLemmas.{rising_on}
 use Rattle.rr_differ.proofs.NextLemmas.{IsRead, day_is_soon, on_day, on_day_soon, on_later, on_later_soon, on_none}
 use Rattle.rr_differ.proofs.next.next_from.Given.{Over}
 use Rattle.rr_differ.proofs.next.next_from.Goals.{After-second_part}

@@ -1,7 +1,7 @@
 use Rattle.std.proofs.Common.{refl, subst, inr}
-use Rattle.rr_drill.specs.Folds.{stands}
+use Rattle.rr_drill.specs.DayTables.{stands}
 use Rattle.rr_drill.specs.Asked.{IsVerdictAsked}
-use Rattle.rr_drill.proofs.FoldLemmas.{not_yes}
+use Rattle.rr_drill.proofs.DayTableLemmas.{not_yes}
 use Rattle.rr_drill.proofs.counting.one_where_yes.Goals as goal
 
 pub returns-in-No-clause-count : goal.returns-in-No-clause-count

@@ -1,5 +1,5 @@
 use Rattle.std.proofs.Common.{arith}
-use Rattle.rr_drill.specs.Folds.{stands}
+use Rattle.rr_drill.specs.DayTables.{stands}
 use Rattle.rr_drill.specs.Asked.{IsYes}
 use Rattle.rr_drill.proofs.CountLemmas.{counts_all, counts_on}
 use Rattle.rr_drill.proofs.counting.yes_in_row.Goals as goal

@@ -1,5 +1,5 @@
 use Rattle.std.proofs.Common.{◌≤◌}
-use Rattle.rr_drill.specs.Folds.{stands}
+use Rattle.rr_drill.specs.DayTables.{stands}
 use Rattle.rr_drill.specs.Asked.{IsYes}
 use Rattle.rr_drill.proofs.CountLemmas.{CountsOn}
 use Rattle.rr_drill.proofs.counting.yes_in_row.Given as goal

@@ -2,7 +2,7 @@ use Rattle.std.proofs.Common.{◌≡◌, ◌-◌, ◌+◌, suc, subst, sym, arit
 use Rattle.std.specs.Prelude.{List}
 use Rattle.rr_drill.specs.declared.drawn_days.DrawnDays.{DrawnDays}
 use Rattle.rr_drill.specs.Draws.{drawn_series}
-use Rattle.rr_drill.proofs.FoldLemmas.{StandFor, all_drawn, one_more}
+use Rattle.rr_drill.proofs.DayTableLemmas.{StandFor, all_drawn, one_more}
 use Rattle.rr_drill.proofs.drilling.drawn_days.Goals as goal
 
 pub loop-index-preserved : goal.loop-index-preserved

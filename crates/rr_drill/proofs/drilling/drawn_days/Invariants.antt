@@ -1,6 +1,6 @@
 use Rattle.std.proofs.Common.{◌-◌}
 use Rattle.rr_drill.specs.Draws.{drawn_series}
-use Rattle.rr_drill.proofs.FoldLemmas.{StandFor}
+use Rattle.rr_drill.proofs.DayTableLemmas.{StandFor}
 use Rattle.rr_drill.proofs.drilling.drawn_days.Given as goal
 
 abbrev pub invariant-loop-index : goal.invariant-loop-index

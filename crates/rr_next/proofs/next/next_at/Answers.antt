@@ -3,7 +3,7 @@ use Rattle.std.proofs.lemmas.Int.{ints}
 use Rattle.std.specs.Prelude.{nat_lt}
 use Rattle.rr_model.specs.Moment.{day_part, second_part}
 use Rattle.rr_model.specs.Rising.{Rises}
-use Rattle.rr_word.proofs.SketchLemmas.{rising_on}
+use Rattle.rr_periodic.proofs.SketchLemmas.{rising_on}
 use Rattle.rr_next.specs.Next.{IsNextDay, IsSoon}
 use Rattle.rr_next.proofs.NextLemmas.{on_day, on_day_soon, on_later, on_later_soon, on_none, some_second}
 use Rattle.rr_next.proofs.next.next_at.Goals as goal

@@ -1,7 +1,7 @@
 use Rattle.std.proofs.Common.{w64, to_z, of_z, ℕ, ℤ, pos, ◌+ℤ◌, ◌+◌, ◌-◌, ◌≤◌, arith}
 use Rattle.std.proofs.Math.Nat.{min-le_left, min-le_right}
 use Rattle.std.proofs.lemmas.Int.{ints}
-use Rattle.rr_word.specs.Stretches.{AreFree}
+use Rattle.rr_periodic.specs.Stretches.{AreFree}
 use Rattle.rr_overlap.proofs.DayLemmas.{walk_begins, walked_at}
 use Rattle.rr_overlap.proofs.FreeLemmas.{fewer_free, walked_on}
 use Rattle.rr_overlap.proofs.days.first_meeting.Goals as goal

@@ -2,7 +2,7 @@ use Rattle.std.proofs.Common.{rules, ◌≡◌, ◌≤◌, ◌<◌, ◌∙◌, p
 use Rattle.std.specs.Prelude.{Contains, FitsSigned, int_lt}
 use Rattle.rr_model.specs.Rising.{Rises}
 use Rattle.rr_plan.specs.Few.{HoldsBefore}
-use Rattle.rr_word.proofs.SketchLemmas.{second_fits}
+use Rattle.rr_periodic.proofs.SketchLemmas.{second_fits}
 use Rattle.rr_plan.proofs.FewLemmas.{holds_next_read, within_before}
 use Rattle.rr_plan.proofs.MoreLemmas.{more_found}
 use Rattle.rr_plan.proofs.few.moments_within.Goals as goal

@@ -1,6 +1,6 @@
 use Rattle.std.proofs.Common.{◌≡◌, ◌+◌, ◌∙◌, ap, arith, drop, length, length-drop, ℕ, pos, ◌+ℤ◌, List, ◌++◌, ◌∷◌, []}
 use Rattle.std.proofs.lemmas.List.{drop-append-le}
-use Rattle.rr_word.specs.declared.numbered.NumberedDay.{NumberedDay}
+use Rattle.rr_periodic.specs.declared.numbered.NumberedDay.{NumberedDay}
 use Rattle.rr_runs.proofs.RunLemmas.{number_put}
 use Rattle.rr_runs.proofs.run_days.put_at.Goals as goal
 

@@ -27,11 +27,11 @@ nth_of_days-requires-clause-next c =
 
 pub returns-then-is_whole_days : goal.returns-then-is_whole_days
 returns-then-is_whole_days c = rw
-    (c.new-start.ensures.kind, c.new-start.ensures.at, to_z-of_z c.ranges.start, to_z-of_z c.ranges.unit, to_z-of_z c.ranges.place) at c.nth_of_days.ensures
+    (c.new-start.ensures.kind, c.new-start.ensures.at, to_z-of_z c.ranges.start, to_z-of_z c.ranges.unit, to_z-of_z c.ranges.position) at c.nth_of_days.ensures
 
 pub returns-else-is_whole_days : goal.returns-else-is_whole_days
 returns-else-is_whole_days c =
     let fine = sym c.is_whole_days.ensures ∙ c.if-is_whole_days.false in
     let kind : c.args.kind ≡ Moments = only_moments c.args.rule.now.freq c.args.kind c.requires.rule.start fine in
-    subst (λ k. IsNthOfUnit c.args.rule.now k c.args.start c.args.unit c.args.place c.nth_of_seconds.result) (sym kind)
-    (rw (c.new-start.ensures.at, to_z-of_z c.ranges.start, to_z-of_z c.ranges.unit, to_z-of_z c.ranges.place) at c.nth_of_seconds.ensures)
+    subst (λ k. IsNthOfUnit c.args.rule.now k c.args.start c.args.unit c.args.position c.nth_of_seconds.result) (sym kind)
+    (rw (c.new-start.ensures.at, to_z-of_z c.ranges.start, to_z-of_z c.ranges.unit, to_z-of_z c.ranges.position) at c.nth_of_seconds.ensures)

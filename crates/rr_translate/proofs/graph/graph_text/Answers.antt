@@ -1,4 +1,4 @@
-use Rattle.rr_fold.specs.Judged.{all_limits}
+use Rattle.rr_tabulate.specs.Judged.{all_limits}
 use Rattle.rr_translate.proofs.GraphLemmas.{said_is_answered}
 use Rattle.rr_translate.proofs.graph.graph_text.Goals as goal
 

@@ -6,7 +6,7 @@ use Rattle.rr_model.specs.Bounds.{first_day_of_all}
 use Rattle.rr_model.specs.Moment.{moment_at}
 use Rattle.rr_trip.specs.declared.features.TheConstants.{FIRST_OCCURRENCES}
 use Rattle.rr_trip.proofs.FeatureLemmas.{first_day_of, first_occur, near_when}
-use Rattle.rr_trip.proofs.JudgeLemmas.{folded_is_short}
+use Rattle.rr_trip.proofs.JudgeLemmas.{table_is_short}
 use Rattle.rr_trip.proofs.features.first_times.Goals as goal
 
 pub first_numbers-requires-clause-early : goal.first_numbers-requires-clause-early
@@ -28,7 +28,7 @@ first_numbers-requires-clause-late c =
     rw e (omega (arith, ints, day))
 
 pub first_numbers-requires-clause-short : goal.first_numbers-requires-clause-short
-first_numbers-requires-clause-short c = folded_is_short c.args.key.now.series (sketch c.args.key.now.days) c.requires
+first_numbers-requires-clause-short c = table_is_short c.args.key.now.series (sketch c.args.key.now.days) c.requires
 
 pub returns-clause-first : goal.returns-clause-first
 returns-clause-first c =

@@ -8,7 +8,7 @@ returns-in-Ok-clause-accepted c = record {
   zones = refl;
   lengths = refl;
   marks = refl;
-  folded = c.in-Ok.ensures.accepted.1;
+  tabulated = c.in-Ok.ensures.accepted.1;
 }
 
 pub returns-in-Err-clause-refused : goal.returns-in-Err-clause-refused

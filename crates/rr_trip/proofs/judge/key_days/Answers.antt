@@ -7,8 +7,8 @@ pub returns-in-Ok-clause-states : goal.returns-in-Ok-clause-states
 returns-in-Ok-clause-states g c =
     IfOk-weaker c.days_of_key.result _ _ (λ made h. c.in-Ok.ensures.states ∙ ap Ok (sym h.series)) c.days_of_key.ensures.accepted
 
-pub returns-in-Ok-clause-folded : goal.returns-in-Ok-clause-folded
-returns-in-Ok-clause-folded g c = IfOk-weaker c.days_of_key.result _ _ (λ made h. h.folded) c.days_of_key.ensures.accepted
+pub returns-in-Ok-clause-tabulated : goal.returns-in-Ok-clause-tabulated
+returns-in-Ok-clause-tabulated g c = IfOk-weaker c.days_of_key.result _ _ (λ made h. h.tabulated) c.days_of_key.ensures.accepted
 
 pub returns-in-Ok-clause-zones : goal.returns-in-Ok-clause-zones
 returns-in-Ok-clause-zones g c =

@@ -1,4 +1,4 @@
-use Rattle.rr_word.specs.Bounded.{IsDaySequence-bounded}
+use Rattle.rr_periodic.specs.Bounded.{IsDaySequence-bounded}
 use Rattle.rr_trip.proofs.ZoneLemmas.{none_if, some_if_a, some_if_b}
 use Rattle.rr_trip.proofs.zones.has_some.Goals as goal
 

@@ -1,6 +1,6 @@
 use Rattle.std.proofs.Common.{◌≡◌, ◌+ℤ◌, ◌-ℤ◌, pos, w64, to_z, of_z, subst, arith}
 use Rattle.std.proofs.lemmas.Int.{ints, to_z-of_z}
-use Rattle.rr_word.specs.Stretches.{IsNumberOn}
+use Rattle.rr_periodic.specs.Stretches.{IsNumberOn}
 use Rattle.rr_utc.proofs.about.numbers_about.Goals as goal
 
 pub returns : goal.returns

@@ -2,7 +2,7 @@ use Rattle.std.proofs.Common.{[], w64, sym, ap, ◌∙◌}
 use Rattle.std.proofs.lemmas.Int.{to_z-of_z}
 use Rattle.std.proofs.lemmas.Option.{get_or_from_slice_get}
 use Rattle.rr_canon.specs.Kept.{number_kept}
-use Rattle.rr_word.proofs.NumberedLemmas.{times_of}
+use Rattle.rr_periodic.proofs.NumberedLemmas.{times_of}
 use Rattle.rr_canon.proofs.KeptLemmas.{times_kept}
 use Rattle.rr_canon.proofs.least_seq.LeastSeqDaySeq.at.Goals as goal
 

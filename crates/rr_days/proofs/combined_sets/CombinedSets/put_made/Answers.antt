@@ -1,7 +1,7 @@
 use Rattle.std.proofs.Common.{rules, refl, ◌≤◌, ℕ}
 use Rattle.std.specs.Prelude.{Err}
 use Rattle.std.proofs.lemmas.Result.{err_from_is_err_and}
-use Rattle.rr_shapes.specs.declared.ids.FoldedSetId.{FoldedSetId}
+use Rattle.rr_shapes.specs.declared.ids.ShapeId.{ShapeId}
 use Rattle.rr_days.specs.MadeSets.{IsMadeSet}
 use Rattle.rr_days.proofs.MadeSetLemmas.{left_with_set, made_known, new_kept, refused_one, unchanged_left}
 use Rattle.rr_days.proofs.combined_sets.CombinedSets.put_made.Goals as goal
@@ -43,5 +43,5 @@ returns-in_err-made-clause-left c =
 
 pub returns-in-Err-clause-left : goal.returns-in-Err-clause-left
 returns-in-Err-clause-left c =
-    unchanged_left {X = FoldedSetId} (Err c.in-Err.fault) c.args.op c.args.pair c.args.a.now c.args.b.now c.args.self.now c.place.new.self
+    unchanged_left {X = ShapeId} (Err c.in-Err.fault) c.args.op c.args.pair c.args.a.now c.args.b.now c.args.self.now c.place.new.self
     c.in-Err.ensures.unchanged

@@ -1,8 +1,8 @@
 use Rattle.std.proofs.Common.{◌+◌, drop, get_or, pos, nat_abs, ◌+ℤ◌, ◌-ℤ◌, List, sym, ap, ◌∙◌, arith}
 use Rattle.std.proofs.lemmas.Int.{ints}
 use Rattle.std.proofs.lemmas.List.{get_or-drop, get_or_past}
-use Rattle.rr_word.specs.Numbered.{number_in}
-use Rattle.rr_word.specs.declared.numbered.NumberedDay.{NumberedDay}
+use Rattle.rr_periodic.specs.Numbered.{number_in}
+use Rattle.rr_periodic.specs.declared.numbered.NumberedDay.{NumberedDay}
 use Rattle.rr_runs.specs.Runs.{number_told}
 use Rattle.rr_runs.proofs.RunLemmas.{none_before, number_at}
 use Rattle.rr_runs.proofs.run_days.RunDays.free_days.Goals as goal

@@ -1,0 +1,7 @@
+use Rattle.std.proofs.Common.{ℕ, ◌<◌}
+use Rattle.rr_days.specs.Sketched.{IsEmptyAt}
+use Rattle.rr_days.proofs.day_table.first_occupied.Given as goal
+
+-- the sets so far are empty
+abbrev pub invariant-loop-index : goal.invariant-loop-index
+invariant-loop-index l = (k : ℕ) → k < l.index → IsEmptyAt l.shapes l.numbers k

@@ -1,5 +1,0 @@
-use Rattle.std.proofs.Common.{to_z-of_z}
-use Rattle.rr_days.proofs.folded.FoldedDaySeq.free_days.Goals as goal
-
-pub returns : goal.returns
-returns c = rw (to_z-of_z c.ranges.day) at c.free_ahead.ensures

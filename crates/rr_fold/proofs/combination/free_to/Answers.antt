@@ -1,6 +1,0 @@
-use Rattle.std.proofs.Common.{refl}
-use Rattle.rr_fold.proofs.CombinedLemmas.{free_found}
-use Rattle.rr_fold.proofs.combination.free_to.Goals as goal
-
-pub returns-clause-free : goal.returns-clause-free
-returns-clause-free c = free_found c.args.numbers.now c.args.index c.zeros_from.result _ refl c.zeros_from.ensures

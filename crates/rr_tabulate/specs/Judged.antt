@@ -1,0 +1,16 @@
+-- How a series is judged where it is tabulated (RFC 5545, section 3.8.5).
+use Rattle.std.specs.Prelude.{true, None, Some, Result, Ok, Err, ⊤}
+use Rattle.rr_model.specs.Series.FirstRefusal.{Limits, IsLimitRefusal}
+use Rattle.rr_model.specs.declared.refusal.Fault.{Fault}
+use Rattle.rr_model.specs.declared.refusal.Fault.TheVariants.{Refused, NoMemory}
+use Rattle.rr_model.specs.declared.rule.Series.{Series}
+
+-- the cycle, counts and moments are judged
+abbrev pub all_limits : Limits
+all_limits = record { cycle = true; counts = true; moments = true }
+
+-- The answer is by the first limit that the series goes beyond, but out of memory may come in place of each.
+abbrev pub IsDayTableJudged : {X : Type 0} → Series → Result X Fault → Type 0
+IsDayTableJudged series (Ok x) = IsLimitRefusal all_limits series None
+IsDayTableJudged series (Err (Refused refusal)) = IsLimitRefusal all_limits series (Some refusal)
+IsDayTableJudged series (Err NoMemory) = ⊤

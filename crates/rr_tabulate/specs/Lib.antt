@@ -1,0 +1,10 @@
+pub mod Cycles
+pub mod Tabulation
+pub mod Judged
+pub mod Jump
+pub mod Rules
+pub mod Numbering
+pub mod Combined
+pub mod Dated
+pub mod Walks
+pub mod Years

@@ -1,7 +1,0 @@
-use Rattle.rr_word.proofs.SketchLemmas.{agreement_of_sketches_lasts}
-use Rattle.rr_word.proofs.laws.agreement_lasts.Goals as goal
-
-pub returns : goal.returns
-returns g c =
-    agreement_of_sketches_lasts (g.A.DaySeq.sketch c.args.a.now) (g.B.DaySeq.sketch c.args.b.now) (g.met.A.DaySeq.bounded c.args.a.now).valid
-    (g.met.B.DaySeq.bounded c.args.b.now).valid

@@ -1,5 +1,0 @@
-use Rattle.rr_word.proofs.ExactlyOneLemmas.{each_has_one}
-use Rattle.rr_word.proofs.laws.each_has_one_least_sketch.Goals as goal
-
-pub returns : goal.returns
-returns c = each_has_one

@@ -1,5 +1,0 @@
-use Rattle.rr_word.proofs.OneLeastLemmas.{one_least}
-use Rattle.rr_word.proofs.laws.least_sketch_is_one.Goals as goal
-
-pub returns : goal.returns
-returns c = one_least

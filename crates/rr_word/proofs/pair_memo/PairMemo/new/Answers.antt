@@ -1,5 +1,0 @@
-use Rattle.rr_word.proofs.PairMemoLemmas.{none_kept}
-use Rattle.rr_word.proofs.pair_memo.PairMemo.new.Goals as goal
-
-pub returns : goal.returns
-returns c = none_kept
