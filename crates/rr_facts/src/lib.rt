@@ -4,8 +4,6 @@
 mod advice;
 mod facts;
 mod sum;
-#[cfg(test)]
-mod tests;
 
 pub use advice::{advice_of, file_advice_of};
 pub use facts::{Facts, FileFacts};
