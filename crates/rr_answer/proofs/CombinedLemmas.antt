@@ -65,7 +65,7 @@ no_times s v none d = by (times_on s d) refl
 none_of_empty : (s : Sketch) → IsEmptySketch s → HasNone (StandsIn s)
 none_of_empty s empty k t h = Contains-none (second_part k t) (subst (λ l. Contains l (second_part k t)) (empty (day_part k t)) h.second)
 
--- ---- the second set's seconds, where its kind is the first one's
+-- ---- the second set's seconds, if its kind is the first one's
 
 beside_is : (k l : Kind) (ys : List ℕ) (x : ℕ) → Contains (if is_same_kind k l then ys else []) x → (k ≡ l) × Contains ys x
 beside_is Days Days ys x c = (refl, c)
@@ -196,7 +196,7 @@ module _ (a b : Sketch) (va : IsValidSketch a) (vb : IsValidSketch b) (P Q : Occ
     (λ h. ((f k t).1 h.0, λ u. h.1 ((g k t).0 u))),
   )
 
--- what is combined lies in the year 1 or later, where both do
+-- what is combined lies in the year 1 or later, if both do
 pub combined_from_year_one : (op : Op) (P Q : Occurrences) → OccurFromYearOne P → OccurFromYearOne Q → OccurFromYearOne (combined_occurrences op P Q)
 combined_from_year_one Union P Q p q k t (inl h) = p k t h
 combined_from_year_one Union P Q p q k t (inr h) = q k t h

@@ -41,7 +41,7 @@ use Rattle.rr_skip.specs.Reading.{reads_rscale}
 use Rattle.rr_skip.specs.declared.series.SkipSeries.{SkipSeries}
 use Rattle.rr_answer.proofs.GraphEventLemmas.{reads_graph-valid}
 
--- a series was read where it is the subject
+-- a series was read if it is the subject
 record IsSeriesOf (read : Result Series Refusal) (subject : Subject) : Type 0 where
   series : Series
   is_read : read ≡ Ok series
@@ -77,7 +77,7 @@ module _ (V : Type 0) (read : Result V Refusal) (counterpart : V → Series) (In
       let e : counterpart value.0 ≡ is.series = cc in
       subst (λ x. HaveEqualOccurrences (OccursIn x) Stated) (ap of_series e ∙ sym is.is_subject) (of_value value.0 value.1)
 
--- where the value is the series itself
+-- if the value is the series itself
 series_stated : (read : Result Series Refusal) (subject : Subject) → Ok subject ≡ as_subject read
     → HaveEqualOccurrences (OccursIn subject) (λ k t. (series : Series) × (read ≡ Ok series) × Occurs series k t)
 series_stated read subject h =

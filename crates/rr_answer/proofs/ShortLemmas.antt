@@ -26,7 +26,7 @@ use Rattle.rr_answer.specs.declared.command.DayLanguage.TheVariants.{Canon, Rsca
 
 -- ---- by limits
 
--- where the first refusal is none, nothing was refused before
+-- if the first refusal is none, nothing was refused before
 none_before : (r : Option Refusal) (next : Option Refusal → Type 0) → IsRefusalOr r next None → next None
 none_before (Some refusal) next h = absurd (cc)
 none_before None next h = h

@@ -20,7 +20,7 @@ abbrev pub clash_said : Kind → Kind → Clash → Answer
 clash_said k l Yes = record { status = status.Yes; bytes = line (codes "yes") }
 clash_said k l (No at a b) = record { status = status.No; bytes = clash_text k l at a b }
 
--- `clear`: that no second is shared where occurrences last d and e seconds, or the first clash
+-- `clear`: that no second is shared if occurrences last d and e seconds, or the first clash
 pub record IsClashSaid (d e : ℕ) (s u : Subject) (answer : Answer) : Type 0 where
   pub clash : Clash
   pub is_clash : IsClashVerdict (OccursIn s) d (OccursIn u) e (kind_of s) (kind_of u) clash

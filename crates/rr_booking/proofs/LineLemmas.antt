@@ -16,7 +16,7 @@ use Rattle.rr_booking.specs.Parsed.{all_in, other_in}
 use Rattle.rr_booking.specs.declared.request.Other.{Other as ParsedOther}
 use Rattle.rr_booking.specs.Booking.{AreAnswers, IsBookingSaid, Other, answer_of_all, is_no, is_refused, status_by}
 
--- what is known where these others are left
+-- what is known if these others are left
 pub record IsToldTo (duration : ℕ) (a : Sketch) (others rest : List Other) (text : List ℕ) (clashes refused : Bool) : Type 0 where
   pub answers : List Answer
   pub leads : (more : List Answer) → AreSaidBeside duration a rest more → AreSaidBeside duration a others (answers ++ more)

@@ -52,7 +52,7 @@ abbrev pub booking_with : ℕ → Operand → List (List ℕ) → List ℕ → O
 booking_with duration candidate words bytes =
     option_map (λ others. record { duration = duration; candidate = candidate; others = others }) (others_of words bytes)
 
--- the booking that the words are, where they are one
+-- the booking that the words are, if they are one
 unfoldable pub booking_of : List (List ℕ) → List ℕ → Option Booking
 booking_of (seconds ∷ word ∷ words) bytes =
     option_and_then (λ d. option_and_then (λ a. booking_with d a words bytes) (operand_of word)) (number_between 1 MAX_DURATION seconds)

@@ -183,7 +183,7 @@ back_paged pool pool' pages pages' pages'' rest before is grown more en e =
       ap (λ (l : List ℕ). row_of_pages pool' l ++ rest) back ∙ paged_in_grown pool pool' pages rest is grown,
     )
 
--- where there is no room
+-- if there is no room
 pub no_room : (pages rest : List ℕ) (count : ℕ) → HasRoom pages rest 0 → (HasRoom pages rest (count + 1) → ⊥) → count ≡ 0 → length rest % 63 ≡ 0
 no_room [] rest count room all none =
     elim (cases_lt (length rest) 200_025) [
