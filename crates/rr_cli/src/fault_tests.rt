@@ -9,8 +9,8 @@ use std::test::*;
 // The text of both operands.
 const DAILY: &str = "DTSTART:20240101\nRRULE:FREQ=DAILY\n";
 
-// Words, and what is put of the whole answer, with the exit status: where the first fetch fails, and the second; where the put fails at once,
-// after one byte, and after two; and where only a third fetch or a second put would. `~` stands for a line break.
+// Words, and what is put of the whole answer, with the exit status: if the first fetch fails, and the second; if the put fails at once,
+// after one byte, and after two; and if only a third fetch or a second put would. `~` stands for a line break.
 const UNDER_FAULTS: &str = "\
 equal rrule:a rrule:b|[4]|[4]|[5]|y[5]|ye[5]|yes~[0]
 canon rrule:a|[4]|rrcanon 2~days~f 2024-01-01~q 2024-01-01 1~c 0 0 1~[0]|[5]|r[5]|rr[5]|rrcanon 2~days~f 2024-01-01~q 2024-01-01 1~c 0 0 1~[0]
@@ -35,7 +35,7 @@ fn ran(
     format!(in alloc; "{}[{}]", text.as_str(), status.code()).expect(rt, "memory")
 }
 
-// That is put where the fetch of this number fails, and the put of this number after its first bytes. None has the number 0.
+// That is put if the fetch of this number fails, and the put of this number after its first bytes. None has the number 0.
 fn fault_holds(
     rt: &impl Abort,
     alloc: Global,

@@ -32,7 +32,7 @@ fn take_continuation(text: &[u8]) -> Option<(&[u8], &[u8])>
     Some((&line[1..], after))
 }
 
-// What follows the first line, where that is empty, ends with a line feed alone and is continued by no line.
+// What follows the first line, if that is empty, ends with a line feed alone and is continued by no line.
 fn after_empty_line(text: &[u8]) -> Option<&[u8]>
     ensures { IfSome result (λ after. IsEmptyLine text.now after.now) }
 {
