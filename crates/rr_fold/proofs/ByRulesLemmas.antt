@@ -21,7 +21,7 @@ use Rattle.rr_model.specs.declared.rule.Series.{Series}
 use Rattle.rr_fold.proofs.DatesFromLemmas.{among_from, start_adds_nothing}
 use Rattle.rr_fold.specs.Dated.{changed}
 use Rattle.rr_fold.specs.Folding.{HasNoDayBefore}
-use Rattle.rr_fold.specs.Rules.{HasRules, given_from, kept_from, members_of_rules}
+use Rattle.rr_fold.specs.Rules.{given_from, kept_from, members_of_rules}
 use Rattle.rr_fold.specs.declared.dated.Change.TheVariants.{Add, TakeOut}
 
 -- ---- rules
@@ -86,12 +86,12 @@ pub no_excluded : (series : Series) (first : ℤ) → series.excluded ≡ [] →
 no_excluded series first none d s = rw none (sym (and-true (stands_at (given_from series first) d s)))
 
 -- from a day on, what is kept stands in the series without the dates taken out
-pub series_alike : (series : Series) (first end : ℤ) → IsSound series → HasRules series first end → (d : ℤ) (s : ℕ) → first ≤ℤ d
+pub series_alike : (series : Series) (first : ℤ) → IsSound series → series.rules ≢ [] → (d : ℤ) (s : ℕ) → first ≤ℤ d
     → changed TakeOut series.kind series.minus (stands_at (kept_from series first)) d s ≡ stands_at (tree_of series) d s
-series_alike series first end sound has d s l =
+series_alike series first sound some d s l =
     let rules : Bool = some_stands_at (members_of_all series.kind series.start series.rules) d s in
     let out : Bool = some_stands_at (members_of_all series.kind series.start series.excluded) d s in
     let given = start_adds_nothing series.start_counts series.kind series.plus series.start d s rules
-    (start_member series.kind series.start series.rules has.some sound.valid.start sound.valid.rules sound.rules d s)
+    (start_member series.kind series.start series.rules some sound.valid.start sound.valid.rules sound.rules d s)
     ∙ ap (λ b. b || rules) (sym (among_from series.kind first d s series.plus l)) in
     sym (ap (λ b. (b && not out) && not (is_among series.kind series.minus d s)) given)

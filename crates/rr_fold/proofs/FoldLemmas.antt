@@ -215,7 +215,7 @@ refused_so X Y NoMemory P Q r so = tt
 
 -- ---- days that repeat are copied
 
--- a day has the number of the day n days earlier, where the tree repeats in between
+-- a day has the number of the day n days earlier, if the tree repeats in between
 pub copied : (tree : Tree) (first from : ℤ) (days k : ℕ) (sets : List (List ℕ)) (number : ℕ) → RepeatsAfter tree from days → from ≤ℤ (first +ℤ pos k)
     → IsNumbered sets number (stands_at tree (first +ℤ pos k)) → IsNumbered sets number (stands_at tree (first +ℤ pos (k + days)))
 copied tree first from days k sets number repeats l i = record {

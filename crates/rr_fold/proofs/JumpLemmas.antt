@@ -23,7 +23,7 @@ use Rattle.rr_fold.specs.Folding.{IsNumbered, HasNoDayBefore, IsFoldedTo}
 use Rattle.rr_fold.specs.Jump.{IsSpliced}
 use Rattle.rr_fold.proofs.FoldLemmas.{no_second}
 
--- where no more lie up to the end of a day, none of its occurrences is left out
+-- if no more lie up to the end of a day, none of its occurrences is left out
 all_early : (a : Tree) (n : ℕ) (d : ℤ) (s : ℕ) → IsFromYearOne d → before_day a (d +ℤ pos 1) ≤ n → stands_at (first_n a n) d s ≡ stands_at a d s
 all_early a n d s begun few = elim (stands_at a d s) as (λ b. stands_at a d s ≡ b → (b && nat_le (count_to (λ x y. stands_at a x y) d s) n) ≡ b) [
   | false ↦ λ e. refl

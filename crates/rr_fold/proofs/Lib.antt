@@ -13,6 +13,7 @@ pub mod NumberingLemmas
 pub mod RulesFoldLemmas
 pub mod SameTreeLemmas
 pub mod SameYearLemmas
+pub mod SpanLemmas
 pub mod SplicedLemmas
 pub mod StandsForLemmas
 pub mod CombinedFoldLemmas

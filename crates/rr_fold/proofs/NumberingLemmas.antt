@@ -39,7 +39,7 @@ some_same a b e = cc
 
 -- ---- what is known
 
--- stays so where the table goes on
+-- stays so if the table goes on
 pub known_of_table : (table table' sets : List (List ℕ)) (known : List (Option Known)) → Extends table table' → IsKnown table sets known
     → IsKnown table' sets known
 known_of_table table table' sets known more is_known n k e =
@@ -47,13 +47,13 @@ known_of_table table table' sets known more is_known n k e =
     let s = same_set table table' n more h.0 in
     (s.0, h.1 ∙ ap (λ (times : List ℕ). Some (take k.count times)) (sym s.1))
 
--- stays so where sets are added
+-- stays so if sets are added
 pub known_of_sets : (table sets sets' : List (List ℕ)) (known : List (Option Known)) → Extends sets sets' → IsKnown table sets known → IsKnown table sets' known
 known_of_sets table sets sets' known more is_known n k e =
     let h = is_known n k e in
     (h.0, more k.number.number (take k.count (get_or table n [])) h.1)
 
--- stays so where there is more room
+-- stays so if there is more room
 pub known_widened : (table sets : List (List ℕ)) (known known' : List (Option Known)) → IsWidened known known' → IsKnown table sets known
     → IsKnown table sets known'
 known_widened table sets known known' wide is_known n k e = is_known n k (wide n k e)

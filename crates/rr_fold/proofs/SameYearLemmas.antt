@@ -176,7 +176,7 @@ module _ (w : ℕ) (y z : ℤ) (k : ℕ) (leap : is_leap y ≡ is_leap z) (low :
 
 -- ---- what stands at a second of a day
 
--- where no unit is left out the date parts decide
+-- if no unit is left out the date parts decide
 day_holds-each : (rule : Rule) (start_day d : ℤ) → rule.interval ≡ 1 → day_holds rule start_day d ≡ date_parts_hold (filled_rule rule Days start_day) d
 day_holds-each rule start_day d each =
     let fits : interval_holds rule Days start_day d ≡ true =

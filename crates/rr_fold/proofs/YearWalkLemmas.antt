@@ -90,7 +90,7 @@ kept_longer rule period first days days' kept more are = record {
       record { year = y.year; of_slot = y.of_slot; after = y.after; begins = y.begins; ends = omega (arith, y.ends, more) });
 }
 
--- no year is kept where there is nothing at each index
+-- no year is kept if there is nothing at each index
 pub none_kept : (rule : Rule) (period : ℕ) (first : ℤ) (days : ℕ) (kept : List (Option ℕ)) → length kept ≡ 56 * period → ((k : ℕ) → k < 56 * period → get_or kept k None ≡ None)
     → AreKeptYears rule period first days kept
 none_kept rule period first days kept whole none = record {
@@ -210,7 +210,7 @@ least_first day end end' from is e low high above below =
     let least : from ≡ int_min day end' = rw d at is in
     back from (omega (arith, ints, clamps, least, e, low, above)) (omega (arith, ints, clamps, least, e, below)) ∙ least
 
--- the first day of the year after that of a day, or the end where it comes before
+-- the first day of the year after that of a day, or the end if it comes before
 pub first_step : (first end from : ℤ) → first <ℤ end → from ≡ int_min (first_day_of_year (year_of first +ℤ pos 1)) end
     → (first <ℤ from) × (from ≤ℤ end) × (from <ℤ end → from ≡ first_day_of_year (year_of first +ℤ pos 1))
 first_step first end from order is =

@@ -1,4 +1,4 @@
--- How a series is judged where it is folded (RFC 5545, section 3.8.5).
+-- How a series is judged when it is folded (RFC 5545, section 3.8.5).
 use Rattle.std.specs.Prelude.{true, None, Some, Result, Ok, Err, ⊤}
 use Rattle.rr_model.specs.Series.FirstRefusal.{Limits, IsLimitRefusal}
 use Rattle.rr_model.specs.declared.refusal.Fault.{Fault}

@@ -1,5 +1,5 @@
 -- Series that are folded rule by rule.
-use Rattle.std.specs.Prelude.{◌≡◌, ◌≢◌, List, [], All, filter, int_le, ℤ, ◌≤ℤ◌, ◌<ℤ◌}
+use Rattle.std.specs.Prelude.{◌≡◌, List, All, filter, int_le, ℤ}
 use Rattle.rr_model.specs.Moment.{day_part}
 use Rattle.rr_model.specs.Series.Tree.{members_of, members_of_all}
 use Rattle.rr_model.specs.Sets.Tree.{Tree, chosen_of, dates_of, except, many, union}
@@ -9,16 +9,16 @@ use Rattle.rr_model.specs.declared.rule.Rule.{Rule}
 use Rattle.rr_model.specs.declared.rule.Series.{Series}
 use Rattle.rr_fold.specs.Folding.{AreDaysOf}
 use Rattle.rr_fold.specs.declared.folded_days.FoldedDays.{FoldedDays}
+use Rattle.rr_fold.specs.declared.span.Span.{Span}
 
 -- no rule has an end
 abbrev pub AreEndless : List Rule → Type 0
 AreEndless rules = All (λ rule. rule.end ≡ Never) rules
 
--- a rule at least, and a start from the first day on and before the end
-pub record HasRules (series : Series) (first end : ℤ) : Type 0 where
-  pub some : series.rules ≢ []
-  pub begun : first ≤ℤ day_part series.kind series.start
-  pub within : day_part series.kind series.start <ℤ end
+-- the days are those over which this series is folded, by its start
+pub record IsSpanOf (series : Series) (span : Span) : Type 0 where
+  pub kind : span.kind ≡ series.kind
+  pub start : span.start ≡ series.start
 
 -- the members of each rule
 abbrev pub members_of_rules : Kind → ℤ → List Rule → Tree

@@ -178,17 +178,9 @@ fn push_stretch(
     for k in 0..stretch_len(ones, others) {
         let (a, b) = (ones[k], others[k]);
         if last.a != a || last.b != b {
-            let of_one = FoldedSetId { number: a };
-            let of_other = FoldedSetId { number: b };
-            match number_of(
-                sets,
-                alloc,
-                op,
-                of_one,
-                of_other,
-                &one.shapes,
-                &other.shapes,
-            ) {
+            let set_a = FoldedSetId { number: a };
+            let set_b = FoldedSetId { number: b };
+            match number_of(sets, alloc, op, set_a, set_b, &one.shapes, &other.shapes) {
                 Ok(set) => last = CombinedPair {
                     a,
                     b,

@@ -1,6 +1,5 @@
 // Days with dates added, or taken out.
-ghost use Rattle.std.specs.Prelude.{◌≡◌, ◌<◌, ◌∷◌, ◌≤ℤ◌, ◌<ℤ◌, ◌+ℤ◌, [], All, IfOk, OnOk, length, pos};
-ghost use Rattle.rr_model.specs.Bounds.{first_day_of_all};
+ghost use Rattle.std.specs.Prelude.{◌≡◌, ◌<◌, ◌∷◌, ◌+ℤ◌, [], All, IfOk, OnOk, length, pos};
 ghost use Rattle.rr_model.specs.Moment.Years.{IsInYears};
 ghost use Rattle.rr_model.specs.Rising.Sets.{IsSecondsOfDay};
 ghost use Rattle.rr_fold.specs.Dated.{AreChangedDays, AreSomeDays, IsChangedSet, op_of};
@@ -8,8 +7,9 @@ ghost use Rattle.rr_fold.specs.Dated.{AreChangedDays, AreSomeDays, IsChangedSet,
 use crate::combination::combination_of;
 use crate::dates::days_of_dates;
 use crate::folded_days::FoldedDays;
+use crate::span::Span;
 use rr_days::{Op, days_between};
-use rr_model::{Dates, Fault, Kind, NoMemory, day_part, second_part};
+use rr_model::{Dates, Fault, NoMemory, day_part, second_part};
 use rr_shapes::FoldedSetId;
 use rr_times::TimeSet;
 use std::alloc::Global;
@@ -38,8 +38,7 @@ impl Change {
     }
 }
 
-/// The days from `first` on and below `end`, both in days since 1970-01-01, with dates added or taken out. A date before `first`, or
-/// on `end` or after it, changes nothing.
+/// The days of a span with dates added or taken out. A date that lies on none of them changes nothing.
 ///
 /// `TooManyMoments` if the sets that come to be have too many seconds, together with those that were there, or for more than
 /// `FEW_DATES` dates if those of the dates, or those of the new days, have too many.
@@ -47,24 +46,19 @@ pub fn with_dates(
     alloc: Global,
     change: Change,
     days: FoldedDays,
-    kind: Kind,
     dates: &Dates,
-    first: i64,
-    end: i64,
+    span: Span,
 ) -> Result<FoldedDays, Fault>
-    requires in_years { All (IsInYears kind) dates.now }
-    requires low { first_day_of_all ≤ℤ first }
-    requires order { first <ℤ end }
-    requires high { end ≤ℤ pos 40_000_000 }
-    requires days { AreSomeDays kind first days }
-    requires whole { end ≡ first +ℤ pos (length days.numbers) }
-    ensures changed { IfOk result (AreChangedDays change kind first dates.now days) }
-    ensures whole { IfOk result (λ made. end ≡ first +ℤ pos (length made.numbers)) }
+    requires in_years { All (IsInYears span.kind) dates.now }
+    requires days { AreSomeDays span.kind span.first days }
+    requires whole { span.end ≡ span.first +ℤ pos (length days.numbers) }
+    ensures changed { IfOk result (AreChangedDays change span.kind span.first dates.now days) }
+    ensures whole { IfOk result (λ made. span.end ≡ span.first +ℤ pos (length made.numbers)) }
 {
     if dates.len() <= FEW_DATES {
-        return with_few_dates(alloc, change, days, kind, dates, first);
+        return with_few_dates(alloc, change, days, dates, span);
     }
-    let other = match days_of_dates(alloc, kind, dates, first, end) {
+    let other = match days_of_dates(alloc, dates, span) {
         Ok(other) => other,
         Err(fault) => {
             drop(days);
@@ -82,19 +76,16 @@ fn with_few_dates(
     alloc: Global,
     change: Change,
     days: FoldedDays,
-    kind: Kind,
     dates: &Dates,
-    first: i64,
+    span: Span,
 ) -> Result<FoldedDays, Fault>
-    requires in_years { All (IsInYears kind) dates.now }
-    requires low { first_day_of_all ≤ℤ first }
-    requires high { first ≤ℤ pos 40_000_000 }
-    requires days { AreSomeDays kind first days }
-    ensures changed { IfOk result (AreChangedDays change kind first dates.now days) }
+    requires in_years { All (IsInYears span.kind) dates.now }
+    requires days { AreSomeDays span.kind span.first days }
+    ensures changed { IfOk result (AreChangedDays change span.kind span.first dates.now days) }
     ensures whole { IfOk result (λ made. length made.numbers ≡ length days.numbers) }
 {
     let mut days = days;
-    match set_dates(alloc, change, &mut days, kind, dates, first) {
+    match set_dates(alloc, change, &mut days, dates, span) {
         Ok(()) => Ok(days),
         Err(fault) => {
             drop(days);
@@ -108,19 +99,17 @@ fn set_dates(
     alloc: Global,
     change: Change,
     days: &mut FoldedDays,
-    kind: Kind,
     dates: &Dates,
-    first: i64,
+    span: Span,
 ) -> Result<(), Fault>
-    requires in_years { All (IsInYears kind) dates.now }
-    requires low { first_day_of_all ≤ℤ first }
-    requires high { first ≤ℤ pos 40_000_000 }
-    requires days { AreSomeDays kind first days.old }
-    ensures changed { OnOk result (AreChangedDays change kind first dates.now days.old days.new) }
+    requires in_years { All (IsInYears span.kind) dates.now }
+    requires days { AreSomeDays span.kind span.first days.old }
+    ensures changed { OnOk result
+        (AreChangedDays change span.kind span.first dates.now days.old days.new) }
     ensures whole { OnOk result (length days.new.numbers ≡ length days.old.numbers) }
 {
     for date in dates.as_slice() {
-        set_date(alloc, change, days, kind, *date, first)?;
+        set_date(alloc, change, days, *date, span)?;
     }
     Ok(())
 }
@@ -130,30 +119,27 @@ fn set_date(
     alloc: Global,
     change: Change,
     days: &mut FoldedDays,
-    kind: Kind,
     date: i64,
-    first: i64,
+    span: Span,
 ) -> Result<(), Fault>
-    requires in_years { IsInYears kind date }
-    requires low { first_day_of_all ≤ℤ first }
-    requires high { first ≤ℤ pos 40_000_000 }
-    requires days { AreSomeDays kind first days.old }
+    requires in_years { IsInYears span.kind date }
+    requires days { AreSomeDays span.kind span.first days.old }
     ensures changed { OnOk result
-        (AreChangedDays change kind first (date ∷ []) days.old days.new) }
+        (AreChangedDays change span.kind span.first (date ∷ []) days.old days.new) }
     ensures whole { OnOk result (length days.new.numbers ≡ length days.old.numbers) }
 {
-    let day = day_part(kind, date);
-    if day < first {
+    let day = day_part(span.kind, date);
+    if day < span.first {
         return Ok(());
     }
-    let index = days_between(first, day);
+    let index = days_between(span.first, day);
     if index >= days.numbers.len() {
         return Ok(());
     }
     let old = FoldedSetId {
         number: days.numbers.number_at(index),
     };
-    let second = second_part(kind, date);
+    let second = second_part(span.kind, date);
     let times = changed_times(alloc, change, days.shapes.times(old), second)?;
     let set = days.shapes.place(times)?;
     days.numbers.set(index, set.number)?;

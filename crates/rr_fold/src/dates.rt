@@ -1,6 +1,5 @@
 // The days of dates, and days with free ones before them.
-ghost use Rattle.std.specs.Prelude.{◌≡◌, ◌++◌, ◌≤◌, ◌≤ℤ◌, ◌<ℤ◌, ◌+ℤ◌, All, IfOk, OnOk, if◌then◌else◌, int_le, int_lt, length, pos, replicate};
-ghost use Rattle.rr_model.specs.Bounds.{first_day_of_all};
+ghost use Rattle.std.specs.Prelude.{◌≡◌, ◌++◌, ◌+ℤ◌, All, IfOk, OnOk, if◌then◌else◌, int_le, int_lt, length, pos, replicate};
 ghost use Rattle.rr_model.specs.Moment.{day_part};
 ghost use Rattle.rr_model.specs.Moment.Years.{IsInYears};
 ghost use Rattle.rr_model.specs.Rising.{with_value};
@@ -9,31 +8,24 @@ ghost use Rattle.rr_fold.specs.Folding.{AreDaysOf};
 ghost use Rattle.rr_fold.specs.Rules.{dates_from};
 
 use crate::folded_days::{FoldedDays, days_of_lazy};
+use crate::span::Span;
 use rr_lazy::DatesLazy;
 use rr_model::{Dates, Fault, Kind, NoMemory, day_part};
 use rr_runs::Pages;
 use std::alloc::Global;
 
-/// The days of the dates that lie on `first` or after it, from there on and below `end`, both in days since 1970-01-01.
+/// The days of the dates that lie on the span's first day or after it.
 /// `TooManyMoments` if their distinct sets have together more than `MAX_SECONDS` seconds.
-pub fn days_of_dates(
-    alloc: Global,
-    kind: Kind,
-    dates: &Dates,
-    first: i64,
-    end: i64,
-) -> Result<FoldedDays, Fault>
-    requires in_years { All (IsInYears kind) dates.now }
-    requires low { first_day_of_all ≤ℤ first }
-    requires order { first <ℤ end }
-    requires high { end ≤ℤ pos 40_000_000 }
+pub fn days_of_dates(alloc: Global, dates: &Dates, span: Span) -> Result<FoldedDays, Fault>
+    requires { All (IsInYears span.kind) dates.now }
     ensures folded { IfOk result
-        (AreDaysOf (dates_of kind (dates_from kind first dates.now)) first end) }
-    ensures whole { IfOk result (λ days. end ≡ first +ℤ pos (length days.numbers)) }
+        (AreDaysOf (dates_of span.kind (dates_from span.kind span.first dates.now))
+        span.first span.end) }
+    ensures whole { IfOk result (λ days. span.end ≡ span.first +ℤ pos (length days.numbers)) }
 {
-    let later = dates_from(alloc, kind, dates, first)?;
-    let lazy = DatesLazy::new(kind, later);
-    days_of_lazy(alloc, lazy, first, end)
+    let later = dates_from(alloc, span.kind, dates, span.first)?;
+    let lazy = DatesLazy::new(span.kind, later);
+    days_of_lazy(alloc, lazy, span.first, span.end)
 }
 
 // The dates that lie on a day or after it.

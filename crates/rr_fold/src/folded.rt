@@ -12,15 +12,17 @@ ghost use Rattle.rr_iter.specs.Counts.{AreCountsOf};
 ghost use Rattle.rr_days.specs.Sequence.{sketch};
 ghost use Rattle.rr_fold.specs.Judged.{IsFoldJudged};
 
+use crate::admitted::Admitted;
 use crate::first_day::first_day;
 use crate::folded_days::folded_days;
+use crate::span::Span;
 use rr_check::{Checked, admit};
 use rr_days::{Folded, sequence};
 use rr_iter::{Counts, settled_day_and_counts};
 use rr_model::Fault;
 use std::alloc::Global;
 
-/// Folds a series whose cycle is at most `MAX_CYCLE_DAYS`, as `admit` gives it.
+/// Folds a series whose cycle was judged.
 ///
 /// `CountedTooFar` if a rule or an excluded rule with COUNT and no UNTIL has fewer members than it counts up to `MAX_SPAN_DAYS`
 /// days after the start's day, and otherwise
@@ -33,6 +35,28 @@ use std::alloc::Global;
 /// set in place; any other is walked day by day. Of a rule with COUNT the days of a few cycles are walked, and of an endless one those of one year of each kind: of rules of
 /// whole days that leave no unit out, and of rules of hours, minutes or seconds, whose years also differ by the place of their
 /// first day in the rule's period. The others are copied.
+pub fn fold_admitted(alloc: Global, series: &Admitted) -> Result<Folded, Fault>
+    ensures stands { IfOk result (λ f. StandsFor (sketch f) (Occurs series.now.series)) }
+    ensures kind { IfOk result (λ f. (sketch f).kind ≡ series.now.series.kind) }
+    ensures settled { IfOk result (λ f. IsSettledDay series.now.series (sketch f).settled) }
+    ensures near { IfOk result (λ f. (sketch f).settled ≤ℤ pos 20_000_000) }
+    ensures period { IfOk result (λ f. (sketch f).period ≡ series_cycle series.now.series) }
+    ensures judged { IsFoldJudged series.now.series result }
+{
+    match settled_day_and_counts(alloc, &series.series) {
+        Ok(settled) => folded_to(
+            alloc,
+            &series.series,
+            series.cycle,
+            settled.day,
+            &settled.counts,
+        ),
+        Err(fault) => Err(fault),
+    }
+}
+
+/// Folds a series whose cycle is at most `MAX_CYCLE_DAYS`, as `admit` gives it. The cycle is found once more here: who has judged it
+/// calls `fold_admitted`, which refuses in the same cases.
 pub fn fold(alloc: Global, series: &Checked) -> Result<Folded, Fault>
     requires few { series_cycle series.now ≤ MAX_CYCLE_DAYS }
     ensures stands { IfOk result (λ f. StandsFor (sketch f) (Occurs series.now)) }
@@ -42,8 +66,9 @@ pub fn fold(alloc: Global, series: &Checked) -> Result<Folded, Fault>
     ensures period { IfOk result (λ f. (sketch f).period ≡ series_cycle series.now) }
     ensures judged { IsFoldJudged series.now result }
 {
+    let cycle = admit(series).unwrap();
     match settled_day_and_counts(alloc, series) {
-        Ok(settled) => folded_to(alloc, series, settled.day, &settled.counts),
+        Ok(settled) => folded_to(alloc, series, cycle, settled.day, &settled.counts),
         Err(fault) => Err(fault),
     }
 }
@@ -52,10 +77,12 @@ pub fn fold(alloc: Global, series: &Checked) -> Result<Folded, Fault>
 fn folded_to(
     alloc: Global,
     series: &Checked,
+    cycle: u64,
     settled: i64,
     counts: &Counts,
 ) -> Result<Folded, Fault>
-    requires few { series_cycle series.now ≤ MAX_CYCLE_DAYS }
+    requires cycle { cycle ≡ series_cycle series.now }
+    requires few { cycle ≤ MAX_CYCLE_DAYS }
     requires settled { IsSettledDay series.now settled }
     requires high { settled ≤ℤ pos 20_000_000 }
     requires counts { AreCountsOf series.now counts.now }
@@ -67,15 +94,19 @@ fn folded_to(
         TooManyMoments result }
 {
     let given = series.series();
-    let period = admit(series).unwrap();
-    let first = first_day(given);
-    match folded_days(alloc, series, counts, first, settled + period as i64) {
+    let span = Span {
+        kind: given.kind,
+        start: given.start,
+        first: first_day(given),
+        end: settled + cycle as i64,
+    };
+    match folded_days(alloc, series, counts, span) {
         Ok(days) => Ok(sequence(
             alloc,
             given.kind,
-            first,
+            span.first,
             settled,
-            period,
+            cycle,
             days.numbers,
             days.shapes,
         )?),

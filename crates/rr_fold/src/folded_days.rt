@@ -6,8 +6,10 @@ ghost use Rattle.rr_iter.specs.Counts.{AreCountsOf};
 ghost use Rattle.rr_lazy.specs.Next.{IsUnasked};
 ghost use Rattle.rr_fold.specs.Dated.{AreDaysIn};
 ghost use Rattle.rr_fold.specs.Folding.{AreDaysOf, HasNoDayBefore, RefusesTooMany};
+ghost use Rattle.rr_fold.specs.Rules.{IsSpanOf};
 
 use crate::rules::{days_by_rules, goes_by_rules};
+use crate::span::Span;
 use crate::walk::Walk;
 use rr_check::Checked;
 use rr_days::days_between;
@@ -28,45 +30,39 @@ pub struct FoldedDays {
     pub shapes: Shapes,
 }
 
-/// The days of a series from `first` on and below `end`, both in days since 1970-01-01, if no day before the first is occupied: rule by
-/// rule if that pays, and otherwise day by day, or if a rule, or some of them together, ask for too much. What was counted of the
-/// rules is taken as given. `TooManyMoments` exactly if the distinct sets of these days have more than `MAX_SECONDS` seconds.
+/// The days of a series that has none before the first one: rule by rule if that pays, and otherwise day by day, or if a rule, or some of
+/// them together, ask for too much. What was counted of the rules is taken as given. `TooManyMoments` exactly if the distinct sets of
+/// these days have more than `MAX_SECONDS` seconds.
 pub fn folded_days(
     alloc: Global,
     series: &Checked,
     counts: &Counts,
-    first: i64,
-    end: i64,
+    span: Span,
 ) -> Result<FoldedDays, Fault>
     requires counts { AreCountsOf series.now counts.now }
-    requires low { first_day_of_all ≤ℤ first }
-    requires order { first <ℤ end }
-    requires high { end ≤ℤ pos 40_000_000 }
-    requires early { HasNoDayBefore (tree_of series.now) first }
-    ensures folded { IfOk result (AreDaysIn series.now.kind (tree_of series.now) first) }
-    ensures whole { IfOk result (λ days. end ≡ first +ℤ pos (length days.numbers)) }
-    ensures refused { RefusesTooMany (tree_of series.now) end result }
+    requires span { IsSpanOf series.now span }
+    requires early { HasNoDayBefore (tree_of series.now) span.first }
+    ensures folded { IfOk result (AreDaysIn series.now.kind (tree_of series.now) span.first) }
+    ensures whole { IfOk result (λ days. span.end ≡ span.first +ℤ pos (length days.numbers)) }
+    ensures refused { RefusesTooMany (tree_of series.now) span.end result }
 {
-    if goes_by_rules(series.series(), first, end) {
-        if let Ok(days) = days_by_rules(alloc, series, counts, first, end) {
+    if goes_by_rules(series.series(), span) {
+        if let Ok(days) = days_by_rules(alloc, series, counts, span) {
             return Ok(days);
         }
     }
-    days_by_walk(alloc, series, first, end)
+    days_by_walk(alloc, series, span)
 }
 
-// The days of a series from one on and below another, each of them walked.
-fn days_by_walk(alloc: Global, series: &Checked, first: i64, end: i64) -> Result<FoldedDays, Fault>
-    requires low { first_day_of_all ≤ℤ first }
-    requires order { first <ℤ end }
-    requires high { end ≤ℤ pos 40_000_000 }
-    requires early { HasNoDayBefore (tree_of series.now) first }
-    ensures folded { IfOk result (AreDaysOf (tree_of series.now) first end) }
-    ensures whole { IfOk result (λ days. end ≡ first +ℤ pos (length days.numbers)) }
-    ensures refused { RefusesTooMany (tree_of series.now) end result }
+// The days of a series that has none before the first one, each of them walked.
+fn days_by_walk(alloc: Global, series: &Checked, span: Span) -> Result<FoldedDays, Fault>
+    requires { HasNoDayBefore (tree_of series.now) span.first }
+    ensures folded { IfOk result (AreDaysOf (tree_of series.now) span.first span.end) }
+    ensures whole { IfOk result (λ days. span.end ≡ span.first +ℤ pos (length days.numbers)) }
+    ensures refused { RefusesTooMany (tree_of series.now) span.end result }
 {
     let lazy = occurrences(alloc, series)?;
-    days_of_lazy(alloc, lazy, first, end)
+    days_of_lazy(alloc, lazy, span.first, span.end)
 }
 
 // The days of an iterator that was not asked yet, from one on and below another.

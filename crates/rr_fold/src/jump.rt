@@ -1,5 +1,5 @@
 // The days of a rule that ends: by its COUNT, whole cycles at a time, or by its UNTIL, walked day by day.
-ghost use Rattle.std.specs.Prelude.{◌≡◌, ◌+◌, ◌*◌, ◌≤◌, ◌≤ℤ◌, ◌<ℤ◌, ◌+ℤ◌, IfOk, IfSome, length, pos};
+ghost use Rattle.std.specs.Prelude.{◌≡◌, ◌+◌, ◌*◌, ◌≤◌, ◌+ℤ◌, IfOk, IfSome, length, pos};
 ghost use Rattle.rr_model.specs.Moment.{day_part};
 ghost use Rattle.rr_model.specs.declared.rule.End.TheVariants.{Count};
 ghost use Rattle.rr_iter.specs.Counts.{IsCounted, IsCountOf};
@@ -8,10 +8,11 @@ ghost use Rattle.rr_fold.specs.Jump.{AreWholeCycles, IsJump, IsSpliced};
 ghost use Rattle.rr_fold.specs.Rules.{AreDaysOfRule};
 
 use crate::folded_days::{FoldedDays, days_of_lazy};
+use crate::span::Span;
 use rr_days::days_between;
 use rr_iter::{CycleCount, EndedLazy};
 use rr_lazy::FirstN;
-use rr_model::{Fault, Kind, NoMemory, Rule, day_part};
+use rr_model::{Fault, NoMemory, Rule, day_part};
 use rr_num::day_cycle;
 use rr_runs::{PAGE_LENGTH, Pages};
 use rr_walk::RuleLazy;
@@ -28,73 +29,55 @@ struct Jump {
     count: u64,
 }
 
-/// The days of a rule with COUNT, from its start's day on and below another: of whole cycles after the first one, which hold the
+/// The days of a rule with COUNT, from its start's day on: of whole cycles after the first one, which hold the
 /// same days again, the days are copied, and those of the others are walked. If nothing was counted, all are walked.
 /// `TooManyMoments` if the distinct sets of the days that are walked have together more than `MAX_SECONDS` seconds.
 pub fn days_counted(
     alloc: Global,
     rule: &Rule,
-    kind: Kind,
-    start: i64,
     count: u64,
     counted: Option<CycleCount>,
-    end: i64,
+    span: Span,
 ) -> Result<FoldedDays, Fault>
-    requires sound { IsSoundRule kind start rule.now }
+    requires sound { IsSoundRule span.kind span.start rule.now }
     requires ends { rule.now.end ≡ Count count }
-    requires counted { IsCountOf kind start rule.now counted }
-    requires order { day_part kind start <ℤ end }
-    requires high { end ≤ℤ pos 40_000_000 }
-    ensures folded { IfOk result (AreDaysOfRule kind start rule.now end) }
-    ensures whole { IfOk result (λ days. end ≡ day_part kind start +ℤ pos (length days.numbers)) }
+    requires counted { IsCountOf span.kind span.start rule.now counted }
+    ensures folded { IfOk result (AreDaysOfRule span.kind span.start rule.now span.end) }
+    ensures whole { IfOk result (λ days. span.end
+        ≡ day_part span.kind span.start +ℤ pos (length days.numbers)) }
 {
     let Some(counted) = counted else {
-        return days_ended(alloc, rule, kind, start, end);
+        return days_ended(alloc, rule, span);
     };
-    match jump_of(rule, kind, start, count, counted, end) {
-        Some(jump) => days_by_jump(alloc, rule, kind, start, end, jump),
-        None => days_ended(alloc, rule, kind, start, end),
+    match jump_of(rule, count, counted, span) {
+        Some(jump) => days_by_jump(alloc, rule, span, jump),
+        None => days_ended(alloc, rule, span),
     }
 }
 
-// The days of a rule from its start's day on and below another, each walked up to the rule's end.
-pub(crate) fn days_ended(
-    alloc: Global,
-    rule: &Rule,
-    kind: Kind,
-    start: i64,
-    end: i64,
-) -> Result<FoldedDays, Fault>
-    requires sound { IsSoundRule kind start rule.now }
-    requires order { day_part kind start <ℤ end }
-    requires high { end ≤ℤ pos 40_000_000 }
-    ensures folded { IfOk result (AreDaysOfRule kind start rule.now end) }
-    ensures whole { IfOk result (λ days. end ≡ day_part kind start +ℤ pos (length days.numbers)) }
+// The days of a rule from its start's day on, each walked up to the rule's end.
+pub(crate) fn days_ended(alloc: Global, rule: &Rule, span: Span) -> Result<FoldedDays, Fault>
+    requires sound { IsSoundRule span.kind span.start rule.now }
+    ensures folded { IfOk result (AreDaysOfRule span.kind span.start rule.now span.end) }
+    ensures whole { IfOk result (λ days. span.end
+        ≡ day_part span.kind span.start +ℤ pos (length days.numbers)) }
 {
-    let lazy = EndedLazy::new(alloc, rule, kind, start)?;
-    days_of_lazy(alloc, lazy, day_part(kind, start), end)
+    let lazy = EndedLazy::new(alloc, rule, span.kind, span.start)?;
+    days_of_lazy(alloc, lazy, day_part(span.kind, span.start), span.end)
 }
 
 // The days of a rule with COUNT, of which whole cycles are copied.
-fn days_by_jump(
-    alloc: Global,
-    rule: &Rule,
-    kind: Kind,
-    start: i64,
-    end: i64,
-    jump: Jump,
-) -> Result<FoldedDays, Fault>
-    requires sound { IsSoundRule kind start rule.now }
-    requires order { day_part kind start <ℤ end }
-    requires high { end ≤ℤ pos 40_000_000 }
-    requires jump { IsJump rule.now kind start end jump }
-    ensures folded { IfOk result (AreDaysOfRule kind start rule.now end) }
-    ensures whole { IfOk result (λ days. end ≡ day_part kind start +ℤ pos (length days.numbers)) }
+fn days_by_jump(alloc: Global, rule: &Rule, span: Span, jump: Jump) -> Result<FoldedDays, Fault>
+    requires sound { IsSoundRule span.kind span.start rule.now }
+    requires jump { IsJump rule.now span.kind span.start span.end jump }
+    ensures folded { IfOk result (AreDaysOfRule span.kind span.start rule.now span.end) }
+    ensures whole { IfOk result (λ days. span.end
+        ≡ day_part span.kind span.start +ℤ pos (length days.numbers)) }
 {
-    let first = day_part(kind, start);
-    let chosen = RuleLazy::new(alloc, rule, kind, start)?;
+    let first = day_part(span.kind, span.start);
+    let chosen = RuleLazy::new(alloc, rule, span.kind, span.start)?;
     let lazy = FirstN::new(chosen, jump.count);
-    let days = days_of_lazy(alloc, lazy, first, end - days_left_out(jump))?;
+    let days = days_of_lazy(alloc, lazy, first, span.end - days_left_out(jump))?;
     let numbers = with_cycles(
         alloc,
         &days.numbers,
@@ -107,24 +90,15 @@ fn days_by_jump(
     })
 }
 
-// The whole cycles of a rule with COUNT that can be left out of the days from its start's on and below another, by the members that
-// were counted in a cycle and after the first one. None if the days end within the first cycle.
-fn jump_of(
-    rule: &Rule,
-    kind: Kind,
-    start: i64,
-    count: u64,
-    counted: CycleCount,
-    end: i64,
-) -> Option<Jump>
-    requires sound { IsSoundRule kind start rule.now }
+// The whole cycles of a rule with COUNT that can be left out of the days from its start's on, by the members that were counted in a
+// cycle and after the first one. None if the days end within the first cycle.
+fn jump_of(rule: &Rule, count: u64, counted: CycleCount, span: Span) -> Option<Jump>
+    requires sound { IsSoundRule span.kind span.start rule.now }
     requires ends { rule.now.end ≡ Count count }
-    requires counted { IsCounted rule.now kind start count counted }
-    requires order { day_part kind start <ℤ end }
-    requires high { end ≤ℤ pos 40_000_000 }
-    ensures { IfSome result (IsJump rule.now kind start end) }
+    requires counted { IsCounted rule.now span.kind span.start count counted }
+    ensures { IfSome result (IsJump rule.now span.kind span.start span.end) }
 {
-    let days = days_between(day_part(kind, start), end) as u64;
+    let days = days_between(day_part(span.kind, span.start), span.end) as u64;
     let cycle = day_cycle(rule).min(100_000_000) as u64;
     if cycle >= days {
         return None;

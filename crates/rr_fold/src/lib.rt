@@ -1,6 +1,7 @@
 //! A series as a sequence of days that repeats.
 #![tactic(auto)]
 
+mod admitted;
 mod combination;
 mod dated;
 mod dates;
@@ -10,7 +11,9 @@ mod folded_days;
 mod jump;
 mod numbering;
 mod rules;
+mod span;
 mod walk;
 mod years;
 
-pub use folded::fold;
+pub use admitted::Admitted;
+pub use folded::{fold, fold_admitted};

@@ -5,7 +5,6 @@ ghost use Rattle.rr_expand.specs.Years.{mask_key};
 ghost use Rattle.rr_walk.specs.Lazies.{knows_rule, position_of_rule, tree_of_rule};
 ghost use Rattle.rr_model.specs.Calendar.{IsDayWithin, first_day_of_year};
 ghost use Rattle.rr_model.specs.Moment.{day_part};
-ghost use Rattle.rr_model.specs.Moment.Years.{IsInYears};
 ghost use Rattle.rr_model.specs.Rule.Validity.{IsValidRule};
 ghost use Rattle.rr_model.specs.declared.rule.Rule.{Rule};
 ghost use Rattle.rr_fold.specs.Rules.{AreDaysChosen};
@@ -13,12 +12,13 @@ ghost use Rattle.rr_fold.specs.Walks.{IsNewWalk, IsWalk};
 ghost use Rattle.rr_fold.specs.Years.{HasEqualYears, IsFinerThanDays, IsYearUpTo, IsYearWalk, KeepsNoYear, KeepsYears, LeavesNoUnitOut, RepeatsByYears};
 
 use crate::folded_days::FoldedDays;
+use crate::span::Span;
 use crate::walk::Walk;
 use rr_cal::{date_of, days_in_year};
 use rr_days::days_between;
 use rr_expand::{YEAR_KEYS, mask_key, new_year};
 use rr_lazy::Lazy;
-use rr_model::{Fault, Freq, Kind, NoMemory, Rule, day_part};
+use rr_model::{Fault, Freq, NoMemory, Rule, day_part};
 use rr_num::interval_cycle;
 use rr_walk::RuleLazy;
 use std::alloc::Global;
@@ -84,30 +84,25 @@ fn is_finer(rule: &Rule) -> bool
     }
 }
 
-/// The days that a rule with a period by `year_period` chooses, from its start's day on and below `end`, in days since 1970-01-01. Of
-/// the years after the start's one is walked for each key and each place of its first day in a period, and the others are copied.
+/// The days that a rule with a period by `year_period` chooses, from its start's day on. Of the years after the start's one is walked for each key and each place of its first day in a period, and the others are copied.
 /// `TooManyMoments` if the distinct sets of these days have together more than `MAX_SECONDS` seconds.
 pub fn days_by_years(
     alloc: Global,
     rule: &Rule,
     period: usize,
-    kind: Kind,
-    start: i64,
-    end: i64,
+    span: Span,
 ) -> Result<FoldedDays, Fault>
-    requires valid { IsValidRule kind rule.now }
-    requires in_years { IsInYears kind start }
+    requires valid { IsValidRule span.kind rule.now }
     requires repeats { RepeatsByYears rule.now period }
     requires some { 1 ≤ period }
     requires few { period ≤ 1_000 }
-    requires order { day_part kind start <ℤ end }
-    requires high { end ≤ℤ pos 40_000_000 }
-    ensures folded { IfOk result (AreDaysChosen kind start rule.now end) }
-    ensures whole { IfOk result (λ days. end ≡ day_part kind start +ℤ pos (length days.numbers)) }
+    ensures folded { IfOk result (AreDaysChosen span.kind span.start rule.now span.end) }
+    ensures whole { IfOk result (λ days. span.end
+        ≡ day_part span.kind span.start +ℤ pos (length days.numbers)) }
 {
-    let first = day_part(kind, start);
-    let mut walk = Walk::new(alloc, days_between(first, end))?;
-    let walked = walk_rule(alloc, rule, period, kind, start, end, &mut walk);
+    let first = day_part(span.kind, span.start);
+    let mut walk = Walk::new(alloc, days_between(first, span.end))?;
+    let walked = walk_rule(alloc, rule, period, span, &mut walk);
     let days = walk.into_days();
     match walked {
         Ok(()) => Ok(days),
@@ -118,31 +113,26 @@ pub fn days_by_years(
     }
 }
 
-// Walks or copies the days of a rule from its start's day on and below the end.
+// Walks or copies the days of a rule from its start's day on.
 fn walk_rule(
     alloc: Global,
     rule: &Rule,
     period: usize,
-    kind: Kind,
-    start: i64,
-    end: i64,
+    span: Span,
     walk: &mut Walk,
 ) -> Result<(), Fault>
-    requires valid { IsValidRule kind rule.now }
-    requires in_years { IsInYears kind start }
+    requires valid { IsValidRule span.kind rule.now }
     requires repeats { RepeatsByYears rule.now period }
     requires some { 1 ≤ period }
     requires few { period ≤ 1_000 }
-    requires order { day_part kind start <ℤ end }
-    requires high { end ≤ℤ pos 40_000_000 }
     requires new { IsNewWalk walk.old }
-    ensures folded { OnOk result (AreDaysChosen kind start rule.now end walk.new.days) }
+    ensures folded { OnOk result (AreDaysChosen span.kind span.start rule.now span.end walk.new.days) }
     ensures whole { OnOk result
-        (end ≡ day_part kind start +ℤ pos (length walk.new.days.numbers)) }
+        (span.end ≡ day_part span.kind span.start +ℤ pos (length walk.new.days.numbers)) }
 {
-    let first = day_part(kind, start);
-    let mut lazy = RuleLazy::new(alloc, rule, kind, start)?;
-    let walked = walk_by_years(alloc, rule, period, &mut lazy, walk, first, end);
+    let first = day_part(span.kind, span.start);
+    let mut lazy = RuleLazy::new(alloc, rule, span.kind, span.start)?;
+    let walked = walk_by_years(alloc, rule, period, &mut lazy, walk, first, span.end);
     // By a call, since otherwise the proof follows the drop into each list that the iterator holds.
     drop(lazy);
     walked

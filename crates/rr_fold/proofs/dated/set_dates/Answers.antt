@@ -10,14 +10,14 @@ use Rattle.rr_fold.proofs.dated.set_dates.Goals as goal
 pub loop-date-init : goal.loop-date-init
 loop-date-init c =
     let old = c.args.days.now in (
-      λ stands w. numbered_same c.args.kind stands (to_z w64 (of_z w64 c.args.first)) old.shapes old.numbers w (changed c.args.change c.args.kind [] stands)
-          (λ k s l. no_dates_change c.args.change c.args.kind stands (to_z w64 (of_z w64 c.args.first) +ℤ pos k) s),
+      λ stands w. numbered_same c.args.span.kind stands c.args.span.first old.shapes old.numbers w (changed c.args.change c.args.span.kind [] stands)
+          (λ k s l. no_dates_change c.args.change c.args.span.kind stands (c.args.span.first +ℤ pos k) s),
       refl,
     )
 
 pub set_date-requires-clause-in_years : goal.set_date-requires-clause-in_years
 set_date-requires-clause-in_years c =
-    let kind = c.args.kind in
+    let kind = c.args.span.kind in
     let items = c.as_slice-date-items.result.now in
     let same : items ≡ c.args.dates.now = c.as_slice-date-items.ensures.value in
     let i = c.loop-date.date-index in
@@ -28,15 +28,13 @@ set_date-requires-clause-in_years c =
 pub set_date-requires-clause-days : goal.set_date-requires-clause-days
 set_date-requires-clause-days c =
     let some = c.requires.days in
-    let was : AreNumberedDays c.args.kind some.0 (to_z w64 (of_z w64 c.args.first)) c.args.days.now.shapes c.args.days.now.numbers =
-    rw (to_z-of_z c.ranges.first) some.1 in
-    (changed c.args.change c.args.kind (take c.loop-date.date-index c.args.dates.now) some.0, c.loop-date.invariant.0 some.0 was)
+    (changed c.args.change c.args.span.kind (take c.loop-date.date-index c.args.dates.now) some.0, c.loop-date.invariant.0 some.0 some.1)
 
 pub loop-date-preserved : goal.loop-date-preserved
 loop-date-preserved c =
-    let kind = c.args.kind in
+    let kind = c.args.span.kind in
     let change = c.args.change in
-    let first : ℤ = to_z w64 (of_z w64 c.args.first) in
+    let first : ℤ = c.args.span.first in
     let dates = c.args.dates.now in
     let items = c.as_slice-date-items.result.now in
     let same : items ≡ dates = c.as_slice-date-items.ensures.value in
@@ -57,6 +55,5 @@ returns-clause-changed c =
     let dates = c.args.dates.now in
     let same : c.as_slice-date-items.result.now ≡ dates = c.as_slice-date-items.ensures.value in
     let all : take c.loop-date.date-index dates ≡ dates = take_all c.loop-date.date-index dates (omega (arith, c.loop-date-test.false, ap length same)) in
-    subst (λ xs. AreChangedDays c.args.change c.args.kind c.args.first xs c.args.days.now c.loop-date.days) all
-    (subst (λ first. AreChangedDays c.args.change c.args.kind first (take c.loop-date.date-index dates) c.args.days.now c.loop-date.days) (to_z-of_z c.ranges.first)
-    c.loop-date.invariant.0)
+    subst (λ xs. AreChangedDays c.args.change c.args.span.kind c.args.span.first xs c.args.days.now c.loop-date.days) all
+    c.loop-date.invariant.0

@@ -5,4 +5,4 @@ use Rattle.rr_fold.proofs.dated.set_dates.Given as goal
 -- the dates so far are added, or taken out
 abbrev pub invariant-loop-date : goal.invariant-loop-date
 invariant-loop-date l =
-    AreChangedDays l.change l.kind l.first (take l.date-index l.dates) l.initial.days l.days × (length l.days.numbers ≡ length l.initial.days.numbers)
+    AreChangedDays l.change l.span.kind l.span.first (take l.date-index l.dates) l.initial.days l.days × (length l.days.numbers ≡ length l.initial.days.numbers)

@@ -1,4 +1,4 @@
-use Rattle.std.proofs.Common.{◌≡◌, length, pos, ◌+ℤ◌, refl, arith, to_z-of_z}
+use Rattle.std.proofs.Common.{◌≡◌, length, pos, ◌+ℤ◌, refl, arith}
 use Rattle.std.specs.Prelude.{int_le}
 use Rattle.std.proofs.lemmas.Int.{ints}
 use Rattle.std.proofs.lemmas.List.Elements.{All-filter}
@@ -16,25 +16,23 @@ use Rattle.rr_fold.proofs.dated.with_dates.Goals as goal
 
 pub combination_of-made-requires-clause-ones : goal.combination_of-made-requires-clause-ones
 combination_of-made-requires-clause-ones c =
-    numbers_within_sets c.args.kind c.requires.days.0 c.args.first c.args.days.shapes c.args.days.numbers c.requires.days.1
+    numbers_within_sets c.args.span.kind c.requires.days.0 c.args.span.first c.args.days.shapes c.args.days.numbers c.requires.days.1
 
 pub combination_of-made-requires-clause-others : goal.combination_of-made-requires-clause-others
 combination_of-made-requires-clause-others c = numbers_within _ _ _ c.in-Ok.other.shapes c.in-Ok.other.numbers c.in-Ok.ensures.folded
 
 pub returns-clause-changed : goal.returns-clause-changed
 returns-clause-changed c =
-    let kind = c.args.kind in
+    let kind = c.args.span.kind in
     let change = c.args.change in
-    let first = c.args.first in
+    let first = c.args.span.first in
     let dates = c.args.dates.now in
     let days = c.args.days in
     let other = c.in-Ok.other in
-    let f = to_z-of_z c.ranges.first in
-    let e = to_z-of_z c.ranges.end in
     let tree = dates_of kind (dates_from kind first dates) in
-    let of_dates = folded_numbered kind tree first c.args.end other.shapes other.numbers
-    (refl, All-filter (λ t. int_le first (day_part kind t)) (IsInYears kind) dates c.requires.in_years) (rw (f, e) at c.in-Ok.ensures.folded) in
-    let as_long = rw (f, e) at c.in-Ok.ensures.whole in
+    let of_dates = folded_numbered kind tree first c.args.span.end other.shapes other.numbers
+    (refl, All-filter (λ t. int_le first (day_part kind t)) (IsInYears kind) dates c.requires.in_years) c.in-Ok.ensures.folded in
+    let as_long = c.in-Ok.ensures.whole in
     let long : length days.numbers ≡ length other.numbers = omega (arith, ints, c.requires.whole, as_long) in
     if_ok_map (λ (made : FoldedDays). AreCombined (op_of change) days.shapes days.numbers other.shapes other.numbers made.shapes made.numbers)
     (λ made. AreChangedDays change kind first dates days made)

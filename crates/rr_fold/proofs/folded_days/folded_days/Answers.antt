@@ -1,4 +1,4 @@
-use Rattle.std.proofs.Common.{arith, subst, to_z-of_z}
+use Rattle.std.proofs.Common.{arith, subst}
 use Rattle.std.proofs.lemmas.Int.{ints}
 use Rattle.rr_model.specs.Series.Soundness.{IsSound}
 use Rattle.rr_model.specs.Series.Tree.{tree_of}
@@ -14,10 +14,9 @@ use Rattle.rr_fold.proofs.folded_days.folded_days.Goals as goal
 pub returns-in-Ok-clause-refused : goal.returns-in-Ok-clause-refused
 returns-in-Ok-clause-refused c =
     let days = c.in-Ok.days in
-    let f = to_z-of_z c.ranges.first in
-    let folded = rw f at c.in-Ok.ensures.folded in
-    let whole = rw (f, to_z-of_z c.ranges.end) at c.in-Ok.ensures.whole in
-    numbered_not_too_many (tree_of c.args.series.now) c.args.first c.args.end days.shapes days.numbers folded.few c.requires.early folded.numbered
+    let folded = c.in-Ok.ensures.folded in
+    let whole = c.in-Ok.ensures.whole in
+    numbered_not_too_many (tree_of c.args.series.now) c.args.span.first c.args.span.end days.shapes days.numbers folded.few c.requires.early folded.numbered
     (λ d s a b. absurd (omega (arith, ints, whole, a, b)))
 
 pub days_by_rules-requires-clause-rules : goal.days_by_rules-requires-clause-rules
@@ -27,6 +26,6 @@ pub returns-clause-folded : goal.returns-clause-folded
 returns-clause-folded c =
     let s = c.args.series.now in
     let sound = subst IsSound c.series.ensures.value c.series.ensures.sound in
-    if_ok_map (λ (made : FoldedDays). AreDaysOf (tree_of s) c.args.first c.args.end made) (λ made. AreDaysIn s.kind (tree_of s) c.args.first made)
-    (λ made h. folded_numbered s.kind (tree_of s) c.args.first c.args.end made.shapes made.numbers (tree_of_kind s sound) h) c.days_by_walk.result
-    (rw (to_z-of_z c.ranges.first, to_z-of_z c.ranges.end) at c.days_by_walk.ensures.folded)
+    if_ok_map (λ (made : FoldedDays). AreDaysOf (tree_of s) c.args.span.first c.args.span.end made) (λ made. AreDaysIn s.kind (tree_of s) c.args.span.first made)
+    (λ made h. folded_numbered s.kind (tree_of s) c.args.span.first c.args.span.end made.shapes made.numbers (tree_of_kind s sound) h) c.days_by_walk.result
+    c.days_by_walk.ensures.folded

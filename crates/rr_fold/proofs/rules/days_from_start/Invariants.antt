@@ -6,5 +6,5 @@ use Rattle.rr_fold.proofs.rules.days_from_start.Given as goal
 
 abbrev pub invariant-loop-index : goal.invariant-loop-index
 invariant-loop-index l =
-    IsFoldedTo (members_of_rules l.kind l.start (take l.index l.rules)) (day_part l.kind l.start) l.end l.days.shapes l.days.numbers
-    × (l.end ≡ day_part l.kind l.start +ℤ pos (length l.days.numbers))
+    IsFoldedTo (members_of_rules l.span.kind l.span.start (take l.index l.rules)) (day_part l.span.kind l.span.start) l.span.end l.days.shapes l.days.numbers
+    × (l.span.end ≡ day_part l.span.kind l.span.start +ℤ pos (length l.days.numbers))

@@ -1,5 +1,6 @@
-use Rattle.std.proofs.Common.{to_z-of_z}
+use Rattle.std.proofs.Common.{sym, ◌∙◌}
+use Rattle.rr_fold.proofs.RulesFoldLemmas.{some_listed}
 use Rattle.rr_fold.proofs.rules.goes_by_rules.Goals as goal
 
-pub returns-then-pays : goal.returns-then-pays
-returns-then-pays c = λ e. rw (to_z-of_z c.ranges.first, to_z-of_z c.ranges.end) at (c.has_rules.ensures e)
+pub returns : goal.returns
+returns c = λ e. some_listed c.args.series.now.rules (sym c.is_empty.ensures ∙ c.if-is_empty.false)

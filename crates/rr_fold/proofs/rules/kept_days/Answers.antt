@@ -1,7 +1,6 @@
-use Rattle.std.proofs.Common.{◌≡◌, length, pos, ◌+ℤ◌, sym, ◌∙◌, arith, to_z-of_z}
+use Rattle.std.proofs.Common.{◌≡◌, length, pos, ◌+ℤ◌, sym, ◌∙◌, arith}
 use Rattle.std.proofs.lemmas.Int.{ints}
 use Rattle.rr_iter.proofs.SettledLemmas.{excluded_are_sound}
-use Rattle.rr_model.proofs.BackLemmas.{in_years_back}
 use Rattle.rr_model.specs.Sets.Tree.{stands_at}
 use Rattle.rr_fold.specs.Combined.{AreCombined}
 use Rattle.rr_fold.specs.Dated.{AreDaysIn}
@@ -20,9 +19,9 @@ returns-then-is_empty-clause-folded c =
     let s = c.args.series.now in
     let days = c.in_ok-days.days in
     let none = none_listed s.excluded (sym c.is_empty.ensures ∙ c.if-is_empty.true) in
-    numbered_same s.kind (stands_at (given_from s c.args.first)) c.args.first days.shapes days.numbers
-    (rw (to_z-of_z c.ranges.first) at c.in_ok-days.ensures.folded) (stands_at (kept_from s c.args.first))
-    (λ k x l. no_excluded s c.args.first none (c.args.first +ℤ pos k) x)
+    numbered_same s.kind (stands_at (given_from s c.args.span.first)) c.args.span.first days.shapes days.numbers
+    c.in_ok-days.ensures.folded (stands_at (kept_from s c.args.span.first))
+    (λ k x l. no_excluded s c.args.span.first none (c.args.span.first +ℤ pos k) x)
 
 pub days_of_rules-requires-clause-some : goal.days_of_rules-requires-clause-some
 days_of_rules-requires-clause-some c =
@@ -31,12 +30,11 @@ days_of_rules-requires-clause-some c =
 pub days_of_rules-requires-clause-sound : goal.days_of_rules-requires-clause-sound
 days_of_rules-requires-clause-sound c =
     let s = c.args.series.now in
-    rw (c.as_slice-excluded.ensures, in_years_back s.kind s.start c.requires.sound.valid.start) (excluded_are_sound s c.requires.sound)
+    rw (c.as_slice-excluded.ensures, c.requires.span.kind, c.requires.span.start) (excluded_are_sound s c.requires.sound)
 
 pub days_of_rules-requires-clause-counted : goal.days_of_rules-requires-clause-counted
 days_of_rules-requires-clause-counted c =
-    let s = c.args.series.now in
-    rw (c.as_slice-excluded.ensures, c.as_slice-counted.ensures.value, in_years_back s.kind s.start c.requires.sound.valid.start) c.requires.counts.excluded
+    rw (c.as_slice-excluded.ensures, c.as_slice-counted.ensures.value, c.requires.span.kind, c.requires.span.start) c.requires.counts.excluded
 
 pub combination_of-made-requires-clause-long : goal.combination_of-made-requires-clause-long
 combination_of-made-requires-clause-long c = omega (arith, ints, c.in_ok-days.ensures.whole, c.in-Ok.ensures.whole)
@@ -53,26 +51,23 @@ combination_of-made-requires-clause-others c = numbers_within _ _ _ c.in-Ok.out.
 pub returns-clause-folded : goal.returns-clause-folded
 returns-clause-folded c =
     let s = c.args.series.now in
-    let start = in_years_back s.kind s.start c.requires.sound.valid.start in
-    let f = to_z-of_z c.ranges.first in
-    let e = to_z-of_z c.ranges.end in
-    let first = c.args.first in
+    let first = c.args.span.first in
     let days = c.in_ok-days.days in
     let out = c.in-Ok.out in
     let given = stands_at (given_from s first) in
     let excluded = members_of_rules s.kind s.start s.excluded in
-    let of_excluded = folded_numbered s.kind excluded first c.args.end out.shapes out.numbers (tree_of_kind s c.requires.sound).2.1
-    (rw (start, f, e, c.as_slice-excluded.ensures) at c.in-Ok.ensures.folded) in
+    let of_excluded = folded_numbered s.kind excluded first c.args.span.end out.shapes out.numbers (tree_of_kind s c.requires.sound).2.1
+    (rw (c.requires.span.kind, c.requires.span.start, c.as_slice-excluded.ensures) at c.in-Ok.ensures.folded) in
     let long : length days.numbers ≡ length out.numbers = omega (arith, ints, c.in_ok-days.ensures.whole, c.in-Ok.ensures.whole) in
     if_ok_map (λ (made : FoldedDays). AreCombined Minus days.shapes days.numbers out.shapes out.numbers made.shapes made.numbers)
     (λ made. AreDaysIn s.kind (kept_from s first) first made)
     (λ made h. combined_numbered Minus s.kind given (stands_at excluded) first days.shapes days.numbers out.shapes out.numbers made.shapes made.numbers
-    (rw f at c.in_ok-days.ensures.folded) of_excluded long h) c.combination_of-made.result c.combination_of-made.ensures
+    c.in_ok-days.ensures.folded of_excluded long h) c.combination_of-made.result c.combination_of-made.ensures
 
 pub returns-clause-whole : goal.returns-clause-whole
 returns-clause-whole c =
     let days = c.in_ok-days.days in
     let out = c.in-Ok.out in
-    let whole = rw (to_z-of_z c.ranges.first, to_z-of_z c.ranges.end) at c.in_ok-days.ensures.whole in
+    let whole = c.in_ok-days.ensures.whole in
     if_ok_map (λ (made : FoldedDays). AreCombined Minus days.shapes days.numbers out.shapes out.numbers made.shapes made.numbers)
-    (λ made. c.args.end ≡ c.args.first +ℤ pos (length made.numbers)) (λ made h. omega (arith, ints, whole, h.whole)) c.combination_of-made.result c.combination_of-made.ensures
+    (λ made. c.args.span.end ≡ c.args.span.first +ℤ pos (length made.numbers)) (λ made h. omega (arith, ints, whole, h.whole)) c.combination_of-made.result c.combination_of-made.ensures
