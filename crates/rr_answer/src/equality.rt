@@ -1,5 +1,5 @@
 // What `equal` says of two operands that state series.
-ghost use Rattle.std.specs.Prelude.{◌≡◌, ◌≤◌, IfOk, IfSome, Some};
+ghost use Rattle.std.specs.Prelude.{◌≡◌, IfOk, IfSome, Some};
 ghost use Rattle.rr_answer.specs.Answer.{IsPairAnswer};
 ghost use Rattle.rr_answer.specs.Command.{series_operand};
 ghost use Rattle.rr_answer.specs.Outcome.{answer_of};
@@ -10,9 +10,7 @@ ghost use Rattle.rr_answer.specs.Verdicts.{IsSaidOfBoth};
 ghost use Rattle.rr_answer.specs.declared.command.Inquiry.TheVariants.{Verdict as Ask};
 ghost use Rattle.rr_fold.specs.Judged.{IsFoldJudged, all_limits};
 ghost use Rattle.rr_kinds.specs.Form.{GoesByKinds};
-ghost use Rattle.rr_model.specs.Series.Cycle.{series_cycle};
 ghost use Rattle.rr_model.specs.Series.Validity.{IsValidSeries};
-ghost use Rattle.rr_model.specs.declared.limits.TheConstants.{MAX_CYCLE_DAYS};
 ghost use Rattle.rr_model.specs.declared.question.Question.TheVariants.{Equal};
 ghost use Rattle.rr_model.specs.declared.verdict.Side.TheVariants.{B};
 
@@ -22,8 +20,7 @@ use crate::folding::fold_series;
 use crate::outcome::{Outcome, outcome_of_fault, outcome_of_verdict};
 use crate::pairs::is_one_text;
 use crate::verdicts::verdict_outcome;
-use rr_check::Checked;
-use rr_fold::fold;
+use rr_fold::{Admitted, fold_admitted};
 use rr_kinds::{equal_by_kinds, goes_by_kinds};
 use rr_model::{Fault, NoMemory, Question, Side, Verdict};
 use std::alloc::Global;
@@ -69,12 +66,12 @@ pub(crate) fn equal_outcome(
 {
     let of_a = match read_admitted(alloc, a, text_a) {
         Err(fault) => return outcome_of_fault(alloc, Side::A, fault),
-        Ok(admitted) => admitted.series,
+        Ok(admitted) => admitted,
     };
-    if goes_by_kinds(&of_a) {
+    if goes_by_kinds(&of_a.series) {
         return equal_beside(alloc, &of_a, b, text_b);
     }
-    let days = match fold(alloc, &of_a) {
+    let days = match fold_admitted(alloc, &of_a) {
         Err(fault) => return outcome_of_fault(alloc, Side::A, fault),
         Ok(days) => days,
     };
@@ -90,21 +87,20 @@ pub(crate) fn equal_outcome(
 // What `equal` says of a series that goes by kinds of years, which no limit refuses, and of the bytes of B.
 fn equal_beside(
     alloc: Global,
-    a: &Checked,
+    a: &Admitted,
     b: SeriesOperand,
     text_b: &[u8],
 ) -> Result<Outcome, NoMemory>
-    requires kinds { GoesByKinds a.now }
-    requires valid { IsValidSeries a.now }
-    requires few { series_cycle a.now ≤ MAX_CYCLE_DAYS }
+    requires kinds { GoesByKinds a.now.series }
+    requires valid { IsValidSeries a.now.series }
     ensures { IfOk result (λ x. IsSaidUnder B all_limits (IsSeriesReadOf b.entry text_b.now)
-        (IsSaidOfBoth (Ask Equal) (of_series a.now)) (answer_of x)) }
+        (IsSaidOfBoth (Ask Equal) (of_series a.now.series)) (answer_of x)) }
 {
     let of_b = match read_admitted(alloc, b, text_b) {
         Err(fault) => return outcome_of_fault(alloc, Side::B, fault),
-        Ok(admitted) => admitted.series,
+        Ok(admitted) => admitted,
     };
-    if let Some(verdict) = equal_by_kinds(a, &of_b) {
+    if let Some(verdict) = equal_by_kinds(&a.series, &of_b.series) {
         return outcome_of_verdict(alloc, verdict);
     }
     match equal_folded(alloc, a, &of_b) {
@@ -115,18 +111,16 @@ fn equal_beside(
 
 // What `equal` says of a series that goes by kinds of years and another, by their days, or why the other is refused. Since no limit
 // refuses the first, only memory can be lacking there.
-fn equal_folded(alloc: Global, a: &Checked, b: &Checked) -> Result<Outcome, Fault>
-    requires valid_a { IsValidSeries a.now }
-    requires valid_b { IsValidSeries b.now }
-    requires few_a { series_cycle a.now ≤ MAX_CYCLE_DAYS }
-    requires few_b { series_cycle b.now ≤ MAX_CYCLE_DAYS }
-    ensures judged { IsFoldJudged b.now result }
-    ensures said { IfOk result (λ x. IsSaidOfBoth (Ask Equal) (of_series a.now) (of_series b.now)
-        (answer_of x)) }
+fn equal_folded(alloc: Global, a: &Admitted, b: &Admitted) -> Result<Outcome, Fault>
+    requires valid_a { IsValidSeries a.now.series }
+    requires valid_b { IsValidSeries b.now.series }
+    ensures judged { IsFoldJudged b.now.series result }
+    ensures said { IfOk result (λ x. IsSaidOfBoth (Ask Equal) (of_series a.now.series)
+        (of_series b.now.series) (answer_of x)) }
 {
-    let Ok(days) = fold(alloc, a) else {
+    let Ok(days) = fold_admitted(alloc, a) else {
         return Err(Fault::NoMemory);
     };
-    let days_b = fold(alloc, b)?;
+    let days_b = fold_admitted(alloc, b)?;
     Ok(verdict_outcome(alloc, Question::Equal, &days, &days_b)?)
 }

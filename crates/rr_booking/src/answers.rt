@@ -18,6 +18,7 @@ use crate::tally::Tally;
 use crate::words::{USAGE, parse};
 use rr_answer::{
     Duration, Inquiry, Outcome, Reply, Status, outcome_beside, outcome_of_fault, read_folded,
+    reply_of,
 };
 use rr_days::Folded;
 use rr_model::{NoMemory, Side};
@@ -30,16 +31,6 @@ fn usage_reply(alloc: Global) -> Result<Reply, NoMemory>
     Ok(Reply {
         status: Status::Usage,
         text: Vec::from_slice(alloc, USAGE)?,
-    })
-}
-
-// The reply that an outcome is.
-fn reply_of(alloc: Global, outcome: Outcome) -> Result<Reply, NoMemory>
-    ensures { IfOk result (λ x. reply_is x ≡ answer_of outcome) }
-{
-    Ok(Reply {
-        status: outcome.conclusion.status(),
-        text: outcome.text.into_bytes(alloc)?,
     })
 }
 

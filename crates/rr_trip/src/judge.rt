@@ -4,9 +4,9 @@ ghost use Rattle.rr_model.specs.Series.Validity.{IsValidSeries};
 ghost use Rattle.rr_days.specs.Sequence.{sketch};
 ghost use Rattle.rr_trip.specs.Judged.{AreDaysOfKey, IsFaultBy, IsFaultOf, IsFoldOf, IsKeyFault};
 
-use rr_check::{Checked, admit, check};
+use rr_check::{Checked, check};
 use rr_days::Folded;
-use rr_fold::fold;
+use rr_fold::{Admitted, fold_admitted};
 use rr_length::KeyLengths;
 use rr_model::{Bytes, Fault, Series};
 use rr_seam::{EventFile, KeyFault, KeySeries, Marks, at_event};
@@ -26,10 +26,13 @@ fn days_of(alloc: Global, series: Series) -> Result<SeriesDays, Fault>
         (λ made. (made.series ≡ series) × IsFoldOf made.series (sketch made.days)) }
     ensures refused { IfErr result (IsFaultOf series) }
 {
-    let series = check(series)?;
-    admit(&series)?;
-    match fold(alloc, &series) {
-        Ok(days) => Ok(SeriesDays { series, days }),
+    let checked = check(series)?;
+    let admitted = Admitted::new(checked)?;
+    match fold_admitted(alloc, &admitted) {
+        Ok(days) => Ok(SeriesDays {
+            series: admitted.series,
+            days,
+        }),
         Err(fault) => Err(fault),
     }
 }

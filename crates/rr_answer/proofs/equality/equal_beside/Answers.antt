@@ -21,7 +21,7 @@ use Rattle.rr_answer.proofs.equality.equal_beside.Goals as goal
 pub returns-in-Err : goal.returns-in-Err
 returns-in-Err c =
     IfOk-weaker c.outcome_of_fault.result _ _
-    (λ x e. fault_said B all_limits (IsSeriesRead (series_operand_in c.args.b) c.args.text_b.now) (IsSaidOfBoth (Ask Equal) (of_series c.args.a.now)) c.in-Err.fault
+    (λ x e. fault_said B all_limits (IsSeriesRead (series_operand_in c.args.b) c.args.text_b.now) (IsSaidOfBoth (Ask Equal) (of_series c.args.a.now.series)) c.in-Err.fault
     (answer_of x) (c.in-Err.ensures.refused all_limits refl) e)
     c.outcome_of_fault.ensures
 
@@ -30,7 +30,7 @@ equal_folded-requires-clause-valid_b c = c.in-Ok.ensures.accepted.valid
 
 pub outcome_of_verdict-requires : goal.outcome_of_verdict-requires
 outcome_of_verdict-requires c =
-    equal_printable c.args.a.now c.in-Ok.admitted.series c.requires.valid c.in-Ok.ensures.accepted.valid c.in-Some.verdict c.in-Some.ensures.some
+    equal_printable c.args.a.now.series c.in-Ok.admitted.series c.requires.valid c.in-Ok.ensures.accepted.valid c.in-Some.verdict c.in-Some.ensures.some
     c.in-Some.ensures.day
 
 pub returns-in-Some : goal.returns-in-Some
@@ -43,7 +43,7 @@ returns-in-Some c =
     (λ x e. record {
       judged = Ok (of_series b);
       is_judged = passed all_limits (IsSeriesRead (series_operand_in c.args.b) c.args.text_b.now) b c.in-Ok.admitted.cycle of_b (within_limits b kinds.1 few);
-      is_said = equal_said c.args.a.now b c.in-Some.verdict (answer_of x) c.in-Some.ensures.some e;
+      is_said = equal_said c.args.a.now.series b c.in-Some.verdict (answer_of x) c.in-Some.ensures.some e;
     })
     c.outcome_of_verdict.ensures
 
@@ -58,7 +58,7 @@ returns-in-Ok-equal_folded c = record {
 pub returns : goal.returns
 returns c =
     IfOk-weaker c.outcome_of_fault-in-Err-equal_folded.result _ _
-    (λ x e. fault_said B all_limits (IsSeriesRead (series_operand_in c.args.b) c.args.text_b.now) (IsSaidOfBoth (Ask Equal) (of_series c.args.a.now))
+    (λ x e. fault_said B all_limits (IsSeriesRead (series_operand_in c.args.b) c.args.text_b.now) (IsSaidOfBoth (Ask Equal) (of_series c.args.a.now.series))
     c.in-Err-equal_folded.fault (answer_of x)
     (judged_fault Outcome (IsSeriesRead (series_operand_in c.args.b) c.args.text_b.now) c.in-Ok.admitted.series c.in-Ok.admitted.cycle c.in-Ok.ensures.accepted
     c.in-Err-equal_folded.fault c.in-Err-equal_folded.ensures.judged) e)

@@ -50,13 +50,13 @@ returns-then-goes_by_kinds c =
     })
     c.equal_beside.ensures
 
-pub returns-in-Err-fold : goal.returns-in-Err-fold
-returns-in-Err-fold c =
-    IfOk-weaker c.outcome_of_fault-in-Err-fold.result _ _
-    (λ x e. fault_said A all_limits (IsSeriesRead (series_operand_in c.args.a) c.args.text_a.now) _ c.in-Err-fold.fault (answer_of x)
+pub returns-in-Err-fold_admitted : goal.returns-in-Err-fold_admitted
+returns-in-Err-fold_admitted c =
+    IfOk-weaker c.outcome_of_fault-in-Err-fold_admitted.result _ _
+    (λ x e. fault_said A all_limits (IsSeriesRead (series_operand_in c.args.a) c.args.text_a.now) _ c.in-Err-fold_admitted.fault (answer_of x)
     (judged_fault Folded (IsSeriesRead (series_operand_in c.args.a) c.args.text_a.now) c.in-Ok.admitted.series c.in-Ok.admitted.cycle c.in-Ok.ensures.accepted
-    c.in-Err-fold.fault c.in-Err-fold.ensures.judged) e)
-    c.outcome_of_fault-in-Err-fold.ensures
+    c.in-Err-fold_admitted.fault c.in-Err-fold_admitted.ensures.judged) e)
+    c.outcome_of_fault-in-Err-fold_admitted.ensures
 
 pub returns-then-is_one_text : goal.returns-then-is_one_text
 returns-then-is_one_text c =
@@ -71,7 +71,7 @@ returns-then-is_one_text c =
     (λ x e. subst (IsPairAnswer (Ask Equal) (IsSeriesRead a c.args.text_a.now) (IsSeriesRead b c.args.text_b.now)) (sym e)
     (said_of_one_text (as_operand a) (as_operand b) c.args.text_a.now c.args.text_b.now one (of_series c.in-Ok.admitted.series)
     (passed all_limits (IsSeriesRead a c.args.text_a.now) c.in-Ok.admitted.series c.in-Ok.admitted.cycle c.in-Ok.ensures.accepted
-    c.in-Ok-fold.ensures.judged)))
+    c.in-Ok-fold_admitted.ensures.judged)))
     c.outcome_of_verdict.ensures
 
 pub returns-in-Err-fold_series : goal.returns-in-Err-fold_series
@@ -80,7 +80,7 @@ returns-in-Err-fold_series c =
     (λ x e. record {
       judged = Ok (of_series c.in-Ok.admitted.series);
       is_judged = passed all_limits (IsSeriesRead (series_operand_in c.args.a) c.args.text_a.now) c.in-Ok.admitted.series c.in-Ok.admitted.cycle
-          c.in-Ok.ensures.accepted c.in-Ok-fold.ensures.judged;
+          c.in-Ok.ensures.accepted c.in-Ok-fold_admitted.ensures.judged;
       is_said = fault_said B all_limits (IsSeriesRead (series_operand_in c.args.b) c.args.text_b.now) (IsSaidOfBoth (Ask Equal) (of_series c.in-Ok.admitted.series))
           c.in-Err-fold_series.fault (answer_of x) c.in-Err-fold_series.ensures.refused e;
     })
@@ -88,9 +88,9 @@ returns-in-Err-fold_series c =
 
 pub verdict_outcome-requires-clause-a : goal.verdict_outcome-requires-clause-a
 verdict_outcome-requires-clause-a c =
-    let e = c.in-Ok-fold.ensures in
+    let e = c.in-Ok-fold_admitted.ensures in
     let a : Series = c.in-Ok.admitted.series in
-    fold_from_year_one (of_series a) (sketch c.in-Ok-fold.days) (fold_of a (sketch c.in-Ok-fold.days) c.in-Ok.ensures.accepted.valid e.stands e.kind e.near e.period)
+    fold_from_year_one (of_series a) (sketch c.in-Ok-fold_admitted.days) (fold_of a (sketch c.in-Ok-fold_admitted.days) c.in-Ok.ensures.accepted.valid e.stands e.kind e.near e.period)
 
 pub verdict_outcome-requires-clause-b : goal.verdict_outcome-requires-clause-b
 verdict_outcome-requires-clause-b c =
@@ -99,7 +99,7 @@ verdict_outcome-requires-clause-b c =
 
 pub returns : goal.returns
 returns c =
-    let e = c.in-Ok-fold.ensures in
+    let e = c.in-Ok-fold_admitted.ensures in
     let a : Series = c.in-Ok.admitted.series in
     let of_b = c.in-Ok-fold_series.ensures.accepted in
     IfOk-weaker c.verdict_outcome.result _ _
@@ -109,7 +109,7 @@ returns c =
       is_said = record {
         judged = Ok of_b.subject;
         is_judged = of_b.judged;
-        is_said = said (of_series a) of_b.subject (fold_of a (sketch c.in-Ok-fold.days) c.in-Ok.ensures.accepted.valid e.stands e.kind e.near e.period) of_b.fold;
+        is_said = said (of_series a) of_b.subject (fold_of a (sketch c.in-Ok-fold_admitted.days) c.in-Ok.ensures.accepted.valid e.stands e.kind e.near e.period) of_b.fold;
       };
     })
     c.verdict_outcome.ensures

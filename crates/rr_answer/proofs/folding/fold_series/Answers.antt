@@ -12,10 +12,10 @@ returns-in_err-admitted-clause-refused c =
 
 pub returns-clause-accepted : goal.returns-clause-accepted
 returns-clause-accepted c =
-    series_folded sketch _ c.in_ok-admitted.admitted.series c.in_ok-admitted.admitted.cycle c.in_ok-admitted.ensures.accepted c.fold.result
-    c.fold.ensures.stands c.fold.ensures.kind c.fold.ensures.near c.fold.ensures.period c.fold.ensures.judged
+    series_folded sketch _ c.in_ok-admitted.admitted.series c.in_ok-admitted.admitted.cycle c.in_ok-admitted.ensures.accepted c.fold_admitted.result
+    c.fold_admitted.ensures.stands c.fold_admitted.ensures.kind c.fold_admitted.ensures.near c.fold_admitted.ensures.period c.fold_admitted.ensures.judged
 
 pub returns-clause-refused : goal.returns-clause-refused
 returns-clause-refused c =
-    series_fault sketch _ c.in_ok-admitted.admitted.series c.in_ok-admitted.admitted.cycle c.in_ok-admitted.ensures.accepted c.fold.result
-    c.fold.ensures.judged
+    series_fault sketch _ c.in_ok-admitted.admitted.series c.in_ok-admitted.admitted.cycle c.in_ok-admitted.ensures.accepted c.fold_admitted.result
+    c.fold_admitted.ensures.judged
