@@ -71,14 +71,13 @@ fn folded_to(
     let first = first_day(given);
     match folded_days(alloc, series, counts, first, settled + period as i64) {
         Ok(days) => Ok(sequence(
-            alloc,
             given.kind,
             first,
             settled,
             period,
             days.numbers,
             days.shapes,
-        )?),
+        )),
         Err(fault) => Err(fault),
     }
 }

@@ -98,10 +98,10 @@ sequence-requires-clause-whole c =
 pub sequence-requires-clause-empty : goal.sequence-requires-clause-empty
 sequence-requires-clause-empty c = c.in-Ok.ensures.folded.empty
 
-pub returns-in_ok-sequence-in-Ok-clause-stands : goal.returns-in_ok-sequence-in-Ok-clause-stands
-returns-in_ok-sequence-in-Ok-clause-stands c =
+pub returns-in-Ok-clause-stands : goal.returns-in-Ok-clause-stands
+returns-in-Ok-clause-stands c =
     let s = c.args.series.now in
-    let d = days_are (goal.at.returns-in_ok-sequence-in-Ok-clause-stands c).After-first_day-first in
+    let d = days_are (goal.at.returns-in-Ok-clause-stands c).After-first_day-first in
     let end : ℤ = c.args.settled +ℤ pos c.unwrap-period.result in
     let folded = rw d.first at c.in-Ok.ensures.folded in
     let whole : end ≡ c.first_day-first.result +ℤ pos (length c.in-Ok.days.numbers) = rw (d.first, d.end) at c.in-Ok.ensures.whole in
@@ -110,14 +110,14 @@ returns-in_ok-sequence-in-Ok-clause-stands c =
     let full : length c.in-Ok.days.numbers ≡ days + series_cycle s = omega (arith, ints, whole, at, d.period) in
     let fact = sketch_stands_for tree_stands_for_series series_repeats s c.in-Ok.days.shapes c.in-Ok.days.numbers c.first_day-first.result
     c.args.settled days d.sound c.requires.settled.past (cycle_some s d.sound) at full folded.numbered d.early in
-    let same = c.in_ok-sequence-in-Ok.ensures
+    let same = c.sequence.ensures
     ∙ (λ i. sketch_of (c.series-given.ensures.value i).kind c.in-Ok.days.shapes c.in-Ok.days.numbers (d.first i) (d.settled i) (d.period i)) in
     subst (λ x. StandsFor x (Occurs s)) (sym same) fact
 
-pub returns-in_ok-sequence-in-Ok-clause-refused : goal.returns-in_ok-sequence-in-Ok-clause-refused
-returns-in_ok-sequence-in-Ok-clause-refused c =
+pub returns-in-Ok-clause-refused : goal.returns-in-Ok-clause-refused
+returns-in-Ok-clause-refused c =
     let s = c.args.series.now in
-    let d = days_are (goal.at.returns-in_ok-sequence-in-Ok-clause-refused c).After-first_day-first in
+    let d = days_are (goal.at.returns-in-Ok-clause-refused c).After-first_day-first in
     let end : ℤ = c.args.settled +ℤ pos c.unwrap-period.result in
     let folded = rw d.first at c.in-Ok.ensures.folded in
     let whole : end ≡ c.first_day-first.result +ℤ pos (length c.in-Ok.days.numbers) = rw (d.first, d.end) at c.in-Ok.ensures.whole in
