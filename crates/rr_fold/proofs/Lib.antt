@@ -3,6 +3,7 @@ pub mod DatedLemmas
 pub mod DatesFromLemmas
 pub mod LedLemmas
 pub mod CountedJumpLemmas
+pub mod CycledLemmas
 pub mod DistinctLemmas
 pub mod FineYearLemmas
 pub mod FoldLemmas

@@ -1,3 +1,4 @@
+pub mod Cycles
 pub mod Folding
 pub mod Judged
 pub mod Jump

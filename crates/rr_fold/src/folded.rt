@@ -32,7 +32,7 @@ use std::alloc::Global;
 /// of more than 200,000 days is folded rule by rule, and so are one rule alone, and endless rules with at most 64 dates, which are then
 /// set in place; any other is walked day by day. Of a rule with COUNT the days of a few cycles are walked, and of an endless one those of one year of each kind: of rules of
 /// whole days that leave no unit out, and of rules of hours, minutes or seconds, whose years also differ by the place of their
-/// first day in the rule's period. The others are copied.
+/// first day in the rule's period. Of any other endless rule those of one cycle are. The others are copied.
 pub fn fold(alloc: Global, series: &Checked) -> Result<Folded, Fault>
     requires few { series_cycle series.now ≤ MAX_CYCLE_DAYS }
     ensures stands { IfOk result (λ f. StandsFor (sketch f) (Occurs series.now)) }

@@ -146,7 +146,7 @@ fn days_left_out(jump: Jump) -> i64
 }
 
 // The numbers with the `cycle` numbers that follow the first one put in after it `cycles` times more.
-fn with_cycles(
+pub(crate) fn with_cycles(
     alloc: Global,
     numbers: &Pages,
     cycle: usize,

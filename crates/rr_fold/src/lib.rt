@@ -2,6 +2,7 @@
 #![tactic(auto)]
 
 mod combination;
+mod cycles;
 mod dated;
 mod dates;
 mod first_day;

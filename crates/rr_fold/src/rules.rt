@@ -13,16 +13,16 @@ ghost use Rattle.rr_fold.specs.Folding.{AreDaysOf};
 ghost use Rattle.rr_fold.specs.Rules.{AreDaysChosen, AreDaysOfRule, AreEndless, HasRules, given_from, kept_from, members_of_rules};
 
 use crate::combination::combination_of;
+use crate::cycles::days_by_cycles;
 use crate::dated::{Change, FEW_DATES, with_dates};
 use crate::dates::led_by_free;
-use crate::folded_days::{FoldedDays, days_of_lazy};
+use crate::folded_days::FoldedDays;
 use crate::jump::{days_counted, days_ended};
 use crate::years::{days_by_years, year_period};
 use rr_check::Checked;
 use rr_days::{Op, days_between};
 use rr_iter::{Counts, CycleCount};
 use rr_model::{End, Fault, Kind, Rule, Series, day_part};
-use rr_walk::RuleLazy;
 use std::alloc::Global;
 
 // A series with many dates, or with dates or several rules some of which end, is folded rule by rule if it has more days than these.
@@ -303,6 +303,5 @@ fn days_chosen(
     if let Some(period) = year_period(rule) {
         return days_by_years(alloc, rule, period, kind, start, end);
     }
-    let lazy = RuleLazy::new(alloc, rule, kind, start)?;
-    days_of_lazy(alloc, lazy, day_part(kind, start), end)
+    days_by_cycles(alloc, rule, kind, start, end)
 }

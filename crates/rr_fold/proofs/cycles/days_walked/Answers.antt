@@ -6,7 +6,7 @@ use Rattle.rr_model.specs.Moment.{day_part}
 use Rattle.rr_model.specs.Sets.Tree.{chosen_of}
 use Rattle.rr_fold.specs.Folding.{HasNoDayBefore}
 use Rattle.rr_days.proofs.BackLemmas.{day_back}
-use Rattle.rr_fold.proofs.rules.days_chosen.Goals as goal
+use Rattle.rr_fold.proofs.cycles.days_walked.Goals as goal
 
 pub days_of_lazy-requires-clause-low : goal.days_of_lazy-requires-clause-low
 days_of_lazy-requires-clause-low c =
