@@ -35,6 +35,8 @@ series counted-seconds 20240101T000000 'FREQ=SECONDLY;INTERVAL=86399;COUNT=16777
 several seconds-and-hours 20240101T000000 'FREQ=SECONDLY;INTERVAL=86399' 'FREQ=HOURLY;INTERVAL=23;BYDAY=MO,TU'
 several minutes-and-days 20240101T000000 'FREQ=MINUTELY;INTERVAL=1441' 'FREQ=DAILY;INTERVAL=9973' 'FREQ=DAILY;COUNT=16777217'
 printf 'RDATE:20231231T000000\n' >>"$scratch/minutes-and-days"
+# three rules whose days repeat together after 126,035 days, but only once the second one has ended, after 16,777,217
+several three-rules 20240101T000000 'FREQ=HOURLY;INTERVAL=5;BYDAY=MO,TU' 'FREQ=DAILY;COUNT=16777217' 'FREQ=SECONDLY;INTERVAL=3601'
 # the sets of seconds of a day: many, large, and in turns
 series seconds 20240101T000000 'FREQ=SECONDLY;INTERVAL=86399'
 series january 20240101T000000 'FREQ=SECONDLY;BYMONTH=1'
@@ -69,6 +71,7 @@ megabytes=500
 measure 10 1 'canon, long seconds and hours' canon "rrule:$scratch/seconds-and-hours"
 measure 10 1 'canon, a text of 330 megabytes' canon "rrule:$scratch/minutes-and-days"
 megabytes=250
+measure 6 1 'within, three rules, one of them counted' within "rrule:$scratch/three-rules" "rrule:$scratch/three-rules"
 measure 10 1 'equal, counted rules and 10,000 dates' equal "rrule:$scratch/sixteen" "rrule:$scratch/sixteen"
 measure 10 1 'infer, 582 leap days and a date' infer "rrule:$scratch/leap-days"
 { echo DTSTART:20240101; yes RDATE:20240102 | head -n 10000; yes "X-NOTE:$numbers" | head -n 4900; } >"$scratch/megabyte"
