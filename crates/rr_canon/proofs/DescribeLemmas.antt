@@ -1,8 +1,9 @@
 -- The text of a descriptor as it is put together.
-use Rattle.std.proofs.Common.{◌≡◌, ℕ, suc, ◌+◌, ◌-◌, ◌<◌, Bool, true, false, ◌==◌, eqb-true, List, [], ◌∷◌, ◌++◌, length, get_or, take, drop, map}
+use Rattle.std.proofs.Common.{◌≡◌, ℕ, suc, ◌+◌, ◌-◌, ◌<◌, Bool, true, false, List, [], ◌∷◌, ◌++◌, length, get_or, take, drop, map}
 use Rattle.std.proofs.Common.{append_assoc, Option, Some, None, ℤ, ◌-ℤ◌, nat_abs, refl, sym, ap, ◌∙◌, arith}
-use Rattle.std.proofs.lemmas.List.{append-nil, map-append, take_all}
-use Rattle.std.proofs.Math.Seq.{take-suc, drop-cons}
+use Rattle.std.proofs.lemmas.List.{append-nil, map-append}
+use Rattle.std.proofs.Math.Seq.{take-suc}
+use Rattle.std.proofs.lemmas.Bool.{false≢true}
 use Rattle.rr_model.specs.Sets.Descriptor.{Run, Step, with_step, runs_of}
 use Rattle.rr_model.specs.Sets.DescriptorText.{text_of_lines, run_line, ending_lines, fields}
 use Rattle.rr_model.specs.Text.Moments.{extended_date_text}
@@ -43,18 +44,18 @@ next_after letter run next step old bytes h = record {
 }
 
 -- the step of the next day
-pub one_more_run : (letter : ℕ) (run next : Run) (last last' : ℤ) (gap number k : ℕ) (day : NumberedDay) (days : List NumberedDay)
-    (whole out out' : List ℕ) → drop k days ≡ day ∷ drop (k + 1) days → gap ≡ nat_abs (day.day -ℤ last) → number ≡ day.number → last' ≡ day.day
+pub one_more_run : (letter : ℕ) (run next : Run) (last last' : ℤ) (gap number : ℕ) (day : NumberedDay) (days rest : List NumberedDay)
+    (whole out out' : List ℕ) → days ≡ day ∷ rest → gap ≡ nat_abs (day.day -ℤ last) → number ≡ day.number → last' ≡ day.day
     → IsNextRun letter run (record { gap = gap; set = number }) out out' next
-    → out ++ text_of_runs letter (with_run run (runs_of (steps_by_number last (drop k days)))) ≡ whole
-    → out' ++ text_of_runs letter (with_run next (runs_of (steps_by_number last' (drop (k + 1) days)))) ≡ whole
+    → out ++ text_of_runs letter (with_run run (runs_of (steps_by_number last days))) ≡ whole
+    → out' ++ text_of_runs letter (with_run next (runs_of (steps_by_number last' rest))) ≡ whole
 unfolding runs_of
-one_more_run letter run next last last' gap number k day days whole out out' ed eg en el step before =
-    let rest = steps_by_number day.day (drop (k + 1) days) in
-    let here : steps_by_number last (drop k days) ≡ record { gap = gap; set = number } ∷ rest =
-    ap (steps_by_number last) ed ∙ ap (λ g. record { gap = g; set = day.number } ∷ rest) (sym eg) ∙ ap (λ n. record { gap = gap; set = n } ∷ rest) (sym en) in
-    ap (λ d. out' ++ text_of_runs letter (with_run next (runs_of (steps_by_number d (drop (k + 1) days))))) el
-    ∙ step.same (runs_of rest)
+one_more_run letter run next last last' gap number day days rest whole out out' ed eg en el step before =
+    let steps = steps_by_number day.day rest in
+    let here : steps_by_number last days ≡ record { gap = gap; set = number } ∷ steps =
+    ap (steps_by_number last) ed ∙ ap (λ g. record { gap = g; set = day.number } ∷ steps) (sym eg) ∙ ap (λ n. record { gap = gap; set = n } ∷ steps) (sym en) in
+    ap (λ d. out' ++ text_of_runs letter (with_run next (runs_of (steps_by_number d rest)))) el
+    ∙ step.same (runs_of steps)
     ∙ ap (λ l. out ++ text_of_runs letter (with_run run (runs_of l))) (sym here)
     ∙ before
 
@@ -115,20 +116,9 @@ pub no_ending : (settled : ℤ) (period : ℕ) (cycle : List NumberedDay) (out :
     → out ≡ out ++ text_of_lines (ending_lines (ending_said settled period cycle))
 no_ending settled period cycle out none = no_lines out ∙ ap (λ l. out ++ text_of_lines (ending_lines (ending_said settled period l))) (sym none)
 
-pub nil_from_test : {X : Type 0} (xs : List X) (b : Bool) → b ≡ true → b ≡ (length xs == 0) → xs ≡ []
-nil_from_test [] b t e = refl
-nil_from_test (x ∷ xs) b t e = absurd (let f : (length (x ∷ xs) == 0) ≡ true = sym e ∙ t in omega (arith, eqb-true (length (x ∷ xs)) 0 f))
-
-pub some_from_test : {X : Type 0} (xs : List X) (b : Bool) → b ≡ false → b ≡ (length xs == 0) → 0 < length xs
-some_from_test [] b t e = absurd (cc)
-some_from_test (x ∷ xs) b t e = omega arith
-
-pub whole_of_first : {X : Type 0} (xs : List X) (d : X) → 0 < length xs → xs ≡ get_or xs 0 d ∷ take (length xs - 1) (drop 1 xs)
-whole_of_first [] d h = absurd (omega arith)
-whole_of_first (x ∷ xs) d h = ap (λ l. x ∷ l) (sym (take_all (length (x ∷ xs) - 1) xs (omega arith)))
-
-pub next_of_drop : {X : Type 0} (xs : List X) (k : ℕ) (d : X) → k < length xs → drop k xs ≡ get_or xs k d ∷ drop (k + 1) xs
-next_of_drop xs k d l = let e : k + 1 ≡ suc k = omega arith in drop-cons xs k d l ∙ ap (λ n. get_or xs k d ∷ drop n xs) (sym e)
+pub some_from_test : {X : Type 0} (xs : List X) (b : Bool) → b ≡ false → (xs ≡ [] → b ≡ true) → 0 < length xs
+some_from_test [] b f e = absurd (false≢true (sym f ∙ e refl))
+some_from_test (x ∷ xs) b f e = omega arith
 
 -- the ending of a cycle that is not empty
 pub some_ending : (settled : ℤ) (period : ℕ) (cycle : List NumberedDay) (day : List ℕ) → 0 < length cycle → day ≡ settled_text settled cycle
@@ -139,6 +129,15 @@ some_ending settled period (c ∷ cs) day h e =
     let line = 113 ∷ 32 ∷ extended_date_text settled ++ fields (period ∷ []) in
     let runs = map (run_line 99) (runs_of (steps_by_number settled (c ∷ cs))) in
     ap (λ d. text_of_lines ((113 ∷ 32 ∷ d ++ fields (period ∷ [])) ∷ []) ++ text_of_lines runs) e ∙ sym (text_of_lines-append (line ∷ []) runs)
+
+-- the first day of two lists
+pub first_of_front : (before cycle : List NumberedDay) (day : ℤ) → Some day ≡ first_in before → Some day ≡ first_in (before ++ cycle)
+first_of_front [] cycle day e = absurd (cc)
+first_of_front (x ∷ xs) cycle day e = e
+
+pub first_of_back : (before cycle : List NumberedDay) → None ≡ first_in before → first_in cycle ≡ first_in (before ++ cycle)
+first_of_back [] cycle e = refl
+first_of_back (x ∷ xs) cycle e = absurd (cc)
 
 -- the text of the first day
 pub text_of_first : (days : List NumberedDay) (first : ℤ) → Some first ≡ first_in days → first_text days ≡ extended_date_text first

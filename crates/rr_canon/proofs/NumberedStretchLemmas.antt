@@ -1,19 +1,20 @@
 -- Adding the days of a stretch one after another.
-use Rattle.std.proofs.Common.{◌≡◌, ℕ, zero, suc, ◌+◌, ◌-◌, ◌<◌, ◌≤◌, List, [], ◌++◌, length, ℤ, pos, ◌+ℤ◌, inl, inr, refl, sym, ap, subst, ◌∙◌, arith}
+use Rattle.std.proofs.Common.{◌≡◌, ℕ, zero, suc, ◌+◌, ◌-◌, ◌<◌, ◌≤◌, List, [], ◌++◌, length, ℤ, pos, ◌+ℤ◌, ◌<ℤ◌, inl, inr, refl, sym, ap, subst, ◌∙◌, arith}
 use Rattle.std.specs.List.{All}
 use Rattle.std.proofs.lemmas.Bool.{cases_lt}
 use Rattle.std.proofs.lemmas.Int.{ints}
 use Rattle.std.proofs.lemmas.List.{append-nil}
 use Rattle.std.proofs.lemmas.List.Elements.{All-nil, All-cons}
 use Rattle.rr_model.specs.Rising.Sets.{IsSecondsOfDay}
-use Rattle.rr_model.specs.Sets.Sketch.{IsValidSketch, IsTimeSet, times_on}
+use Rattle.rr_model.specs.Sets.Sketch.{HasRisingDays, IsValidSketch, IsTimeSet, times_on}
+use Rattle.rr_model.specs.declared.sketch.DayShape.{DayShape}
 use Rattle.rr_model.specs.declared.kind.Kind.{Kind}
 use Rattle.rr_model.specs.declared.kind.Kind.TheVariants.{Days, Moments}
 use Rattle.rr_model.specs.declared.sketch.Sketch.{Sketch}
 use Rattle.rr_word.proofs.SketchLemmas.{rising_on, set_on}
-use Rattle.rr_model.specs.Sets.Descriptor.{with_sets_of}
+use Rattle.rr_model.specs.Sets.Descriptor.{number_of, with_sets_of}
 use Rattle.rr_model.specs.Sets.Occupied.{day_shapes, shape_if_some}
-use Rattle.rr_word.proofs.OccupiedLemmas.{occupied_few}
+use Rattle.rr_word.proofs.OccupiedLemmas.{occupied_few, occupied_rises}
 use Rattle.rr_canon.proofs.PrintableLemmas.{sets_few}
 use Rattle.rr_word.proofs.SetNumberLemmas.{IsKnown as IsKnownIn, all_known}
 use Rattle.rr_word.specs.Stretches.{AreFree}
@@ -78,6 +79,22 @@ more_free_days s from day k n free m old sets days ed em le are stretch =
     let here : AreFree s (from +ℤ pos k) n = λ j l. ap (λ d. times_on s (d +ℤ pos j)) (sym ed) ∙ are j (omega arith) in
     let e : day_shapes s from k ≡ day_shapes s from m = sym (ap (λ i. day_shapes s from i) em ∙ occupied_free s from k n here) in
     record { sets = stretch.sets ∙ ap (with_sets_of old) e; numbers = stretch.numbers ∙ ap (numbered_days sets) e }
+
+-- ---- the days that were added
+
+days_below : (sets : List (List ℕ)) (low high : ℤ) (ss : List DayShape) → HasRisingDays low high ss → All (λ x. x.day <ℤ high) (numbered_days sets ss)
+days_below sets low high [] r = All-nil (λ (x : NumberedDay). x.day <ℤ high)
+days_below sets low high (s ∷ ss) r =
+    All-cons (λ (x : NumberedDay). x.day <ℤ high) (record { day = s.day; number = number_of sets s.times }) (numbered_days sets ss) r.1
+    (days_below sets (s.day +ℤ pos 1) high ss r.2)
+
+-- they lie before the next day
+pub days_before : (s : Sketch) → IsValidSketch s → (from day : ℤ) (k : ℕ) (old sets : List (List ℕ)) (days : List NumberedDay) → day ≡ from +ℤ pos k
+    → AreStretchOf s from k old sets days → All (λ x. x.day <ℤ day) days
+days_before s v from day k old sets days at stretch =
+    subst (λ d. All (λ x. x.day <ℤ d) days) (sym at)
+    (subst (λ (l : List NumberedDay). All (λ x. x.day <ℤ from +ℤ pos k) l) (sym stretch.numbers)
+    (days_below sets from (from +ℤ pos k) (day_shapes s from k) (occupied_rises s v from k)))
 
 -- the numbers stay within their type
 pub sets_within : (s : Sketch) (from : ℤ) (k : ℕ) (old sets : List (List ℕ)) (days : List NumberedDay) → AreStretchOf s from k old sets days

@@ -10,8 +10,8 @@ ghost use Rattle.rr_canon.specs.Said.{first_in};
 
 use crate::least_seq::LeastSeq;
 use rr_model::{Kind, NoMemory};
+use rr_runs::RunDays;
 use rr_text::push_extended;
-use rr_word::NumberedDay;
 use std::alloc::Global;
 
 /// The texts of the first occupied day and of the settled day, as `2024-02-29`; empty if there is no such day or none repeats.
@@ -24,16 +24,23 @@ pub struct DayTexts {
 }
 
 /// The first day of two lists, in days since 1970-01-01; `None` if both are empty.
-pub fn first_day(before: &[NumberedDay], cycle: &[NumberedDay]) -> Option<i64>
+pub fn first_day(before: &RunDays, cycle: &RunDays) -> Option<i64>
     ensures { result ≡ first_in (before.now ++ cycle.now) }
 {
-    if let [day, ..] = before {
-        return Some(i64::from(day.day));
+    match first_day_of(before) {
+        Some(day) => Some(day),
+        None => first_day_of(cycle),
     }
-    if let [day, ..] = cycle {
-        return Some(i64::from(day.day));
+}
+
+// The first day of a list.
+fn first_day_of(days: &RunDays) -> Option<i64>
+    ensures { result ≡ first_in days.now }
+{
+    match days.first_item() {
+        Some(item) => Some(item.day),
+        None => None,
     }
-    None
 }
 
 // The text of a day.
@@ -52,7 +59,7 @@ fn text_of_first(alloc: Global, least: &LeastSeq) -> Result<Vec<u8>, NoMemory>
     requires { HasNoneBeforeYearOne (least_sketch least.now) }
     ensures { IfOk result (λ t. t.items ≡ first_text (least.now.before ++ least.now.cycle)) }
 {
-    match first_day(least.before.as_slice(), least.cycle.as_slice()) {
+    match first_day(&least.before, &least.cycle) {
         None => Ok(Vec::new(alloc)),
         Some(day) => day_text(alloc, day),
     }
@@ -63,7 +70,7 @@ fn text_of_settled(alloc: Global, least: &LeastSeq) -> Result<Vec<u8>, NoMemory>
     requires { HasNoneBeforeYearOne (least_sketch least.now) }
     ensures { IfOk result (λ t. t.items ≡ settled_text least.now.settled least.now.cycle) }
 {
-    if least.cycle.as_slice().is_empty() {
+    if least.cycle.is_empty() {
         return Ok(Vec::new(alloc));
     }
     day_text(alloc, least.settled)

@@ -9,8 +9,9 @@ ghost use Rattle.rr_canon.specs.Kept.{HaveSameOccurrences, IsKept, sketch_of};
 
 use crate::stretch::number_days;
 use rr_model::{Kind, NoMemory};
+use rr_runs::RunDays;
 use rr_shapes::TimeSets;
-use rr_word::{DaySeq, NumberedDays, Stretch, days_between, least_period, least_start};
+use rr_word::{DaySeq, Stretch, days_between, least_period, least_start};
 use std::alloc::Global;
 
 /// The least sketch of a set: its least period, from its least start on.
@@ -20,8 +21,8 @@ pub struct LeastSeq {
     pub(crate) first: Option<i64>,
     pub(crate) settled: i64,
     pub(crate) period: u64,
-    pub(crate) before: NumberedDays,
-    pub(crate) cycle: NumberedDays,
+    pub(crate) before: RunDays,
+    pub(crate) cycle: RunDays,
     pub(crate) sets: TimeSets,
     ghost bounded: { IsBounded
         (sketch_of kind sets before settled period cycle) } by { IsBounded-prop
@@ -43,8 +44,8 @@ fn empty_seq(alloc: Global) -> LeastSeq
         first: None,
         settled: 0,
         period: 1,
-        before: NumberedDays::new(alloc),
-        cycle: NumberedDays::new(alloc),
+        before: RunDays::new(alloc),
+        cycle: RunDays::new(alloc),
         sets: TimeSets::new(alloc),
     }
 }

@@ -1,5 +1,5 @@
 // The occupied days of a stretch, with the numbers of their time sets.
-ghost use Rattle.std.specs.Prelude.{◌≡◌, ◌<◌, ◌≤◌, IfOk, IfSome, OnErr, OnOk, ◌++◌, ◌∷◌, None, Some, ℕ, [], drop, get_or, slice_get, length, pos, ◌+ℤ◌, ◌≤ℤ◌};
+ghost use Rattle.std.specs.Prelude.{◌≡◌, ◌<◌, ◌≤◌, All, IfOk, IfSome, OnErr, OnOk, ◌++◌, ◌∷◌, None, Some, ℕ, [], drop, get_or, slice_get, length, pos, ◌+ℤ◌, ◌≤ℤ◌, ◌<ℤ◌};
 ghost use Rattle.rr_model.specs.Bounds.{earliest_near, earliest_taken, latest_taken};
 ghost use Rattle.rr_model.specs.Rising.Sets.{IsSecondsOfDay};
 ghost use Rattle.rr_model.specs.Sets.Sketch.{IsNearDay, times_on};
@@ -8,9 +8,10 @@ ghost use Rattle.rr_canon.specs.Kept.{AreKnown, AreNumbersFrom, AreStretchOf, Is
 ghost use Rattle.rr_canon.specs.Placed.{IsNumbered};
 
 use rr_model::NoMemory;
+use rr_runs::RunDays;
 use rr_shapes::TimeSets;
 use rr_times::TimeSet;
-use rr_word::{DaySeq, NumberedDay, NumberedDays, Stretch};
+use rr_word::{DaySeq, Stretch};
 use std::alloc::Global;
 
 // What is known of the time sets of a sequence: by its own number for a set, the number of the set among those that are kept, and
@@ -69,14 +70,12 @@ impl OwnNumbers {
 }
 
 // Adds a day whose set has a number.
-fn put_numbered(day: i64, number: u32, days: &mut NumberedDays) -> Result<(), NoMemory>
-    requires { IsKeptDay day }
+fn put_numbered(day: i64, number: u32, days: &mut RunDays) -> Result<(), NoMemory>
+    requires near { IsKeptDay day }
+    requires after { All (λ x. x.day <ℤ day) days.old }
     ensures { OnOk result (days.new ≡ days.old ++ record { day = day; number = number } ∷ []) }
 {
-    days.put(NumberedDay {
-        day: day as i32,
-        number,
-    })
+    days.put(day, number)
 }
 
 // The number of the set of these seconds, which is added if it is new.
@@ -99,9 +98,10 @@ fn put_own<A: DaySeq>(
     own: u32,
     known: &mut OwnNumbers,
     sets: &mut TimeSets,
-    days: &mut NumberedDays,
+    days: &mut RunDays,
 ) -> Result<(), NoMemory>
     requires near { IsKeptDay day }
+    requires after { All (λ x. x.day <ℤ day) days.old }
     requires own { slice_get (A.sets seq.now) own ≡ Some (times_on (A.sketch seq.now) day) }
     requires of_day { IsSecondsOfDay (times_on (A.sketch seq.now) day) }
     requires few { length sets.old < 4_294_967_295 }
@@ -201,9 +201,10 @@ fn put_day<A: DaySeq>(
     own: Option<u32>,
     known: &mut OwnNumbers,
     sets: &mut TimeSets,
-    days: &mut NumberedDays,
+    days: &mut RunDays,
 ) -> Result<(), NoMemory>
     requires near { IsKeptDay day }
+    requires after { All (λ x. x.day <ℤ day) days.old }
     requires own { IsNumberOn (A.sets seq.now) (A.sketch seq.now) day own }
     requires few { length sets.old < 4_294_967_295 }
     requires known { AreKnown (A.sets seq.now) sets.old known.old.known.items }
@@ -229,7 +230,7 @@ pub fn number_days<A: DaySeq>(
     from: i64,
     count: u64,
     sets: &mut TimeSets,
-) -> Result<NumberedDays, NoMemory>
+) -> Result<RunDays, NoMemory>
     requires near { IsNearDay from }
     requires few { count ≤ 2_000_000_000 }
     requires end { (from +ℤ pos count) ≤ℤ pos 2_000_000_000 }
@@ -237,7 +238,7 @@ pub fn number_days<A: DaySeq>(
     ensures { IfOk result (λ d. AreStretchOf (A.sketch seq.now) from count sets.old sets.new d) }
 {
     let mut known = OwnNumbers::new(alloc);
-    let mut days = NumberedDays::new(alloc);
+    let mut days = RunDays::new(alloc);
     let mut rest: &[u32] = &[];
     let mut k = free_ahead(seq, from, count, rest, None);
     while k < count {

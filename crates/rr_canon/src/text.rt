@@ -1,9 +1,11 @@
 // The descriptor of a least sketch.
-ghost use Rattle.std.specs.Prelude.{◌≡◌, ◌↔◌, ◌<◌, ◌≤◌, ◌++◌, [], IfOk, IsTrue, OnOk, Some, map};
+ghost use Rattle.std.specs.Prelude.{◌≡◌, ◌↔◌, ◌<◌, ◌≤◌, ◌++◌, [], IfOk, IsTrue, OnOk, Some, map, pos, ◌+ℤ◌};
 ghost use Rattle.std.specs.Io.KnownBytes.{Appends};
+ghost use Rattle.rr_model.specs.Calendar.{IsDayWithin};
 ghost use Rattle.rr_model.specs.declared.kind.Kind.{Kind};
 ghost use Rattle.rr_model.specs.Sets.Descriptor.{descriptor};
 ghost use Rattle.rr_model.specs.Sets.DescriptorText.{ending_lines, set_lines};
+ghost use Rattle.rr_runs.specs.Runs.{items_from};
 ghost use Rattle.rr_canon.specs.Dates.{AreDayTexts, first_text, settled_text};
 ghost use Rattle.rr_canon.specs.Least.{least_said, least_sketch};
 ghost use Rattle.rr_canon.specs.Said.{IsNextRun, ending_said, first_in, runs_by_number, with_run};
@@ -17,8 +19,8 @@ use crate::lines::{
 };
 use crate::version::Version;
 use rr_model::Kind;
+use rr_runs::RunDays;
 use rr_shapes::TimeSets;
-use rr_word::NumberedDay;
 use std::io::{self, Write};
 
 // Whether the step goes on with the run.
@@ -58,38 +60,38 @@ fn write_more_runs<W: Write>(
     letter: u8,
     run: OpenRun,
     from: i64,
-    days: &[NumberedDay],
+    days: &RunDays,
 ) -> io::Result<()>
-    requires { run.count ≤ 1 }
+    requires begun { run.count ≤ 1 }
+    requires far { IsDayWithin 7_000_000_000 from }
     ensures { OnOk result (WritesRuns (W.contents out.old) (W.contents out.new) letter
-        (with_run (run_so_far run) (runs_by_number from days.now))) }
+        (with_run (run_so_far run) (runs_by_number from (items_from (from +ℤ pos 1) days.now)))) }
 {
     let mut current = run;
     let mut last = from;
-    for day in days {
-        let at = i64::from(day.day);
-        current = next_run(out, letter, current, at.abs_diff(last), day.number)?;
-        last = at;
+    while let Some(item) = days.item_from(last + 1) {
+        current = next_run(out, letter, current, item.day.abs_diff(last), item.number)?;
+        last = item.day;
     }
     write_run(out, letter, current)
 }
 
 // Writes the runs over these days.
-fn write_runs<W: Write>(out: &mut W, letter: u8, from: i64, days: &[NumberedDay]) -> io::Result<()>
+fn write_runs<W: Write>(out: &mut W, letter: u8, from: i64, days: &RunDays) -> io::Result<()>
     ensures { OnOk result (WritesRuns (W.contents out.old) (W.contents out.new) letter
         (runs_by_number from days.now)) }
 {
-    if days.is_empty() {
-        return Ok(());
+    match days.first_item() {
+        None => Ok(()),
+        Some(first) => {
+            let run = OpenRun {
+                gap: first.day.abs_diff(from),
+                set: first.number,
+                count: 1,
+            };
+            write_more_runs(out, letter, run, first.day, days)
+        }
     }
-    let first = days[0];
-    let at = i64::from(first.day);
-    let run = OpenRun {
-        gap: at.abs_diff(from),
-        set: first.number,
-        count: 1,
-    };
-    write_more_runs(out, letter, run, at, &days[1..])
 }
 
 // Writes the lines of all time sets.
@@ -125,12 +127,11 @@ fn write_ending<W: Write>(out: &mut W, least: &LeastSeq, day: &[u8]) -> io::Resu
     ensures { OnOk result (WritesLines (W.contents out.old) (W.contents out.new)
         (ending_lines (ending_said least.now.settled least.now.period least.now.cycle))) }
 {
-    let cycle = least.cycle.as_slice();
-    if cycle.is_empty() {
+    if least.cycle.is_empty() {
         return Ok(());
     }
     write_settled(out, day, least.period)?;
-    write_runs(out, b'c', least.settled, cycle)
+    write_runs(out, b'c', least.settled, &least.cycle)
 }
 
 // Writes all lines but the first, of a set with occupied days.
@@ -150,7 +151,7 @@ fn write_days<W: Write>(
     write_kind(out, least.kind)?;
     write_sets(out, version, least.kind, &least.sets)?;
     write_first(out, days.first.as_slice())?;
-    write_runs(out, b'b', first, least.before.as_slice())?;
+    write_runs(out, b'b', first, &least.before)?;
     write_ending(out, least, days.settled.as_slice())
 }
 
@@ -166,7 +167,7 @@ fn write_said<W: Write>(
     ensures { OnOk result (WritesLines (W.contents out.old) (W.contents out.new)
         (lines_in version (descriptor (least_sketch least.now)))) }
 {
-    match first_day(least.before.as_slice(), least.cycle.as_slice()) {
+    match first_day(&least.before, &least.cycle) {
         None => write_line(out, b"none"),
         Some(first) => write_days(out, version, least, days, first),
     }

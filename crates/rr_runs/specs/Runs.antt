@@ -1,7 +1,8 @@
 -- Days with numbers as a row of numbers, and how many runs they have.
-use Rattle.std.specs.Prelude.{◌≡◌, ℕ, zero, suc, ◌+◌, ◌<◌, ◌==◌, ◌&&◌, if◌then◌else◌, List, [], ◌∷◌, ◌++◌, length, drop, get_or, nat_abs, Option, Some, None, ℤ, pos, neg_ℤ, ◌+ℤ◌, ◌-ℤ◌, ◌≤ℤ◌}
+use Rattle.std.specs.Prelude.{◌≡◌, ℕ, zero, suc, ◌+◌, ◌<◌, ◌==◌, ◌&&◌, if◌then◌else◌, List, [], ◌∷◌, ◌++◌, length, drop, get_or, nat_abs, Option, Some, None, ℤ, pos, neg_ℤ, ◌+ℤ◌, ◌-ℤ◌, ◌≤ℤ◌, int_lt}
 use Rattle.rr_word.specs.Numbered.{number_in}
 use Rattle.rr_word.specs.declared.numbered.NumberedDay.{NumberedDay}
+use Rattle.rr_runs.specs.declared.run_days.Item.{Item}
 use Rattle.rr_runs.specs.declared.run_days.RunCount.{RunCount}
 
 -- ---- a row of numbers, one for each day
@@ -33,6 +34,25 @@ SameDays old new skipped = (day : ℤ) → days_of day (drop skipped new) ≡ da
 abbrev pub PutsDayAt : List ℕ → List ℕ → ℕ → ℕ → ℕ → Type 0
 PutsDayAt old new skipped index number =
     (day : ℤ) → days_of day (drop skipped new) ≡ days_of day (drop skipped old) ++ record { day = day +ℤ pos index; number = number } ∷ []
+
+-- ---- items, days rising
+
+-- those of a day that is not before this one
+abbrev pub items_from : ℤ → List NumberedDay → List NumberedDay
+items_from day [] = []
+items_from day (x ∷ xs) = if int_lt x.day day then items_from day xs else x ∷ xs
+
+-- the first of these items of a list, after which those of the list follow that have a later day
+abbrev pub IsFirstOf : List NumberedDay → List NumberedDay → Option Item → Type 0
+IsFirstOf items all None = items ≡ []
+IsFirstOf items all (Some x) = items ≡ record { day = x.day; number = x.number } ∷ items_from (x.day +ℤ pos 1) all
+
+-- the first item of a row of numbers from an index on, whose day is this one
+abbrev pub IsFirstInRow : List ℕ → ℕ → ℤ → Option Item → Type 0
+IsFirstInRow row from day None = days_of day (drop from row) ≡ []
+IsFirstInRow row from day (Some x) =
+    (k : ℕ) × (from + k < length row) × (x.day ≡ day +ℤ pos k)
+    × (days_of day (drop from row) ≡ record { day = x.day; number = x.number } ∷ days_of (x.day +ℤ pos 1) (drop (from + (k + 1)) row))
 
 -- ---- runs
 

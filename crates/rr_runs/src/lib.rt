@@ -11,4 +11,4 @@ mod run_days;
 
 pub use blocks::PAGE_LENGTH;
 pub use pages::Pages;
-pub use run_days::RunDays;
+pub use run_days::{Item, RunDays};

@@ -1,14 +1,23 @@
 // Occupied days with the numbers of their time sets, in little room.
-ghost use Rattle.std.specs.Prelude.{◌≡◌, ◌≢◌, ◌⊎◌, ℕ, ◌<◌, ◌≤◌, ◌∷◌, ◌++◌, ◌+◌, [], None, OnErr, OnOk, drop, length, pos, neg_ℤ, ◌+ℤ◌, ◌≤ℤ◌, ◌<ℤ◌};
+ghost use Rattle.std.specs.Prelude.{◌≡◌, ◌≢◌, ◌⊎◌, ℕ, ◌<◌, ◌≤◌, ◌∷◌, ◌++◌, ◌+◌, [], ◌↔◌, IfSome, IsTrue, None, OnErr, OnOk, drop, length, pos, neg_ℤ, ◌+ℤ◌, ◌≤ℤ◌, ◌<ℤ◌};
 ghost use Rattle.std.specs.List.{All};
 ghost use Rattle.rr_model.specs.Calendar.{IsDayWithin};
 ghost use Rattle.rr_word.specs.Numbered.{number_in};
-ghost use Rattle.rr_runs.specs.Runs.{CountsMore, IsCountedDay, IsRowOf, PutsDayAt, SameDays, change, days_of, number_told, run_count};
+ghost use Rattle.rr_runs.specs.Runs.{CountsMore, IsCountedDay, IsFirstInRow, IsFirstOf, IsRowOf, PutsDayAt, SameDays, change, days_of, items_from, number_told, run_count};
 
 use crate::pages::Pages;
 use rr_model::NoMemory;
 use std::alloc::Global;
 use std::marker::Model;
+
+/// An occupied day and the number of its time set.
+#[derive(Clone, Copy)]
+pub struct Item {
+    /// The day, in days since 1970-01-01.
+    pub day: i64,
+    /// The number of its time set. The caller knows in which list.
+    pub number: u32,
+}
 
 // How many runs there are, and the last item: its day, how far it lies after the one before it, and its number.
 #[derive(Clone, Copy)]
@@ -109,6 +118,38 @@ impl RunDays {
         }
     }
 
+    /// The first item; None exactly if there is none.
+    pub fn first_item(&self) -> Option<Item>
+        ensures first { IsFirstOf self.now self.now result }
+        ensures near { IfSome result (λ x. IsDayWithin 7_000_000_000 x.day) }
+    {
+        item_in_row(&self.row, self.skipped, self.first)
+    }
+
+    /// Whether there is no item.
+    pub fn is_empty(&self) -> bool
+        ensures { IsTrue result ↔ (self.now ≡ []) }
+    {
+        match self.first_item() {
+            None => true,
+            Some(_) => false,
+        }
+    }
+
+    /// The first item of a day that is not before this one; None exactly if there is none.
+    pub fn item_from(&self, day: i64) -> Option<Item>
+        requires far { IsDayWithin 8_000_000_000 day }
+        ensures first { IsFirstOf (items_from day self.now) self.now result }
+        ensures after { IfSome result (λ x. day ≤ℤ x.day) }
+        ensures near { IfSome result (λ x. IsDayWithin 7_000_000_000 x.day) }
+    {
+        if day < self.first {
+            return item_in_row(&self.row, self.skipped, self.first);
+        }
+        let index = (day - self.first) as usize + self.skipped;
+        item_in_row(&self.row, index, day)
+    }
+
     /// How many longest stretches of equal neighbouring pairs of gap and number there are, if the first gap is taken as 0.
     pub fn runs(&self) -> usize
         ensures { result ≡ run_count self.now }
@@ -149,6 +190,28 @@ impl RunDays {
         }
         self.row.zeros_from(index) as u64
     }
+}
+
+// The first item of a row from an index on, whose day is this one.
+fn item_in_row(row: &Pages, from: usize, day: i64) -> Option<Item>
+    requires far { IsDayWithin 8_000_000_000 day }
+    requires few { from ≤ 10_000_000_000_000 }
+    ensures first { IsFirstInRow row.now from day result }
+    ensures after { IfSome result (λ x. day ≤ℤ x.day) }
+    ensures near { IfSome result (λ x. (x.day +ℤ pos from) ≤ℤ (day +ℤ pos 6_400_000_000)) }
+{
+    let end = row.len();
+    let mut index = from;
+    while index < end {
+        if let Some(number) = number_told(row.number_at(index)) {
+            return Some(Item {
+                day: day + (index - from) as i64,
+                number,
+            });
+        }
+        index += row.zeros_from(index).max(1);
+    }
+    None
 }
 
 // The number of a day by what a row tells.

@@ -1,6 +1,6 @@
 // Long lists of numbers, and days with numbers.
 use crate::rows::{is_said, printed, rows_hold};
-use rr_runs::{Pages, RunDays};
+use rr_runs::{Item, Pages, RunDays};
 use std::alloc::Global;
 use std::fmt::Write;
 
@@ -154,6 +154,37 @@ fn put_said(alloc: Global) -> Option<String> {
         days.free_days(39),
     ];
     printed(alloc, &(first, last, free, days.runs()))
+}
+
+// The day and the number of an item.
+fn told(item: Option<Item>) -> Option<(i64, u32)> {
+    let item = item?;
+    Some((item.day, item.number))
+}
+
+// Item by item, from the first one on, and from some days on.
+fn items_said(alloc: Global) -> Option<String> {
+    let days = days_put(alloc)?;
+    let first = told(days.first_item());
+    let next = told(days.item_from(-3));
+    let last = told(days.item_from(38));
+    let none = told(days.item_from(39));
+    let empty = RunDays::new(alloc);
+    printed(
+        alloc,
+        &(first, next, last, none, days.is_empty(), empty.is_empty()),
+    )
+}
+
+#[test]
+fn run_days_are_told_one_by_one(rt: HostRuntime) {
+    let wanted = "(Some((-4, 5)), Some((10, 5)), Some((38, 6)), None, false, true)";
+    is_said(
+        &rt,
+        items_said(rt.alloc()),
+        wanted,
+        "the first item, and those from a day on",
+    );
 }
 
 #[test]

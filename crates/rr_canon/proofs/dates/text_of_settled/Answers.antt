@@ -1,15 +1,14 @@
-use Rattle.std.proofs.Common.{ap, length, ◌∙◌, arith}
+use Rattle.std.proofs.Common.{sym, ◌∙◌, arith}
+use Rattle.std.proofs.lemmas.Bool.{false≢true}
 use Rattle.std.proofs.lemmas.Int.{ints}
-use Rattle.rr_canon.proofs.DescribeLemmas.{some_from_test}
 use Rattle.rr_canon.proofs.SaidLemmas.{settled_can_be_printed}
 use Rattle.rr_canon.proofs.dates.text_of_settled.Goals as goal
 
 pub day_text-requires : goal.day_text-requires
 day_text-requires c =
     let l = c.args.least.now in
-    let some = some_from_test c.as_slice.result.now c.is_empty.result c.if-is_empty.false c.is_empty.ensures in
     let printed = settled_can_be_printed l.kind l.sets l.before l.settled l.period l.cycle l.bounded l.least c.requires
-    (λ none. omega (arith, some, ap length (c.as_slice.ensures ∙ none))) in (
+    (λ none. false≢true (sym c.if-is_empty.false ∙ c.is_empty.ensures.1 none)) in (
       omega (arith, ints, printed.0, printed.1.0, printed.1.1),
       (omega (arith, ints, printed.0, printed.1.0, printed.1.1), omega (arith, ints, printed.0, printed.1.0, printed.1.1)),
     )

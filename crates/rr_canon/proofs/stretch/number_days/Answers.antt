@@ -1,7 +1,7 @@
 use Rattle.std.proofs.Common.{◌+◌, pos, ◌+ℤ◌, [], w64, to_z, of_z, refl, arith}
 use Rattle.std.proofs.lemmas.Int.{ints}
 use Rattle.rr_canon.specs.Kept.{AreStretchOf}
-use Rattle.rr_canon.proofs.NumberedStretchLemmas.{more_free_days, no_days, one_more_day, sets_within}
+use Rattle.rr_canon.proofs.NumberedStretchLemmas.{days_before, more_free_days, no_days, one_more_day, sets_within}
 use Rattle.rr_canon.proofs.OwnNumberLemmas.{left_after, left_later, none_empty, none_known, none_left}
 use Rattle.rr_canon.proofs.stretch.number_days.Goals as goal
 
@@ -24,6 +24,11 @@ put_day-requires-clause-few g c =
     let within = sets_within (g.A.DaySeq.sketch c.args.seq.now)
     (to_z w64 (of_z w64 c.args.from)) c.loop-k.k c.args.sets.now c.loop-k.sets c.loop-k.days c.loop-k.invariant.1 in
     omega (arith, within, c.requires.room, c.requires.few, c.loop-k-test.true)
+
+pub put_day-requires-clause-after : goal.put_day-requires-clause-after
+put_day-requires-clause-after g c =
+    days_before (g.A.DaySeq.sketch c.args.seq.now) (g.met.A.DaySeq.bounded c.args.seq.now).valid (to_z w64 (of_z w64 c.args.from)) _ c.loop-k.k
+    c.args.sets.now c.loop-k.sets c.loop-k.days (omega (arith, ints)) c.loop-k.invariant.1
 
 pub free_ahead-free-requires-clause-rest : goal.free_ahead-free-requires-clause-rest
 free_ahead-free-requires-clause-rest g c =

@@ -21,8 +21,7 @@ returns g c =
     let ending = ending_lines (ending_said l.settled l.period l.cycle) in
     let of_first = ap (λ d. text_of_lines ((102 ∷ 32 ∷ d) ∷ []))
     (c.as_slice.ensures.value ∙ c.requires.days.first ∙ text_of_first (l.before ++ l.cycle) first c.requires.first) in
-    let of_runs = ap (λ d. text_of_runs 98 (runs_of (steps_by_number d c.as_slice-2.result.now))) (to_z-of_z w64 first c.ranges.first)
-    ∙ ap (λ days. text_of_runs 98 (runs_of (steps_by_number first days))) c.as_slice-2.ensures in
+    let of_runs = ap (λ d. text_of_runs 98 (runs_of (steps_by_number d l.before))) (to_z-of_z w64 first c.ranges.first) in
     on_ok_weaker c.write_ending.result
     (λ e. appended_as _ _ _ _ (five_parts kind sets line runs ending [] _ _ _ _ _ refl refl refl refl refl)
     (five_appended (contents c.args.out.now) (contents c.write_kind.new.out) (contents c.write_sets.new.out) (contents c.write_first.new.out)
